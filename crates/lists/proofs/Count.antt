@@ -1,0 +1,162 @@
+-- Counting: how many elements of a list pass a test, and sums over the first n numbers. Assumes nothing.
+use mathlib.Core.Path.{_≡_, refl, sym, ap, _∙_}
+use mathlib.Core.Logic.{_≢_}
+use mathlib.Core.Bool.{Bool, true, false, not, cond, _&&_, true≢false}
+use mathlib.Core.List.{List, [], _∷_, _++_}
+use Prim.Native.Nat.{ℕ, zero, suc, _+_, _≤_, _<_}
+use native.Mathlib.Nat.{not-suc-le-zero, le-of-suc-le-suc}
+use native.Mathlib.Decide.{ℕ-discrete}
+use native.Mathlib.Omega.{arith}
+use lib.ListN.{length, getD, take, drop}
+use Rattle.lists.specs.Scan.{keep, without}
+
+-- a goal by cases on a test, with what the test gave
+pub byBool : {P : Type 0} (b : Bool) → (b ≡ true → P) → (b ≡ false → P) → P
+byBool true f g = f refl
+byBool false f g = g refl
+
+pub and-left : (a b : Bool) → a && b ≡ true → a ≡ true
+and-left true b e = refl
+and-left false b e = e
+
+pub and-right : (a b : Bool) → a && b ≡ true → b ≡ true
+and-right true b e = e
+and-right false b e = absurd (true≢false (sym e))
+
+-- both tests pass, or their conjunction fails
+pub byAnd : {P : Type 0} (a b : Bool) → (a ≡ true → b ≡ true → a && b ≡ true → P) → (a && b ≡ false → P) → P
+byAnd true true f g = f refl refl refl
+byAnd true false f g = g refl
+byAnd false b f g = g refl
+
+-- a goal by cases on an equation of numbers
+pub byEq : {P : Type 0} (a b : ℕ) → (a ≡ b → P) → (a ≢ b → P) → P
+byEq {P} a b f g = go (ℕ-discrete a b)
+  where
+    go : Dec (a ≡ b) → P
+    go (yes e) = f e
+    go (no e) = g e
+
+abbrev pub ind : Bool → ℕ
+ind true = 1
+ind false = 0
+
+abbrev pub count : {A : Type 0} → (A → Bool) → List A → ℕ
+count p [] = 0
+count p (x ∷ xs) = ind (p x) + count p xs
+
+pub count-append : {A : Type 0} (p : A → Bool) (xs ys : List A) → count p (xs ++ ys) ≡ count p xs + count p ys
+count-append p [] ys = omega arith
+count-append p (x ∷ xs) ys = omega (arith, count-append p xs ys)
+
+pub count-delete : {A : Type 0} (p : A → Bool) (xs : List A) (i : ℕ) (d : A) → i < length xs → ind (p (getD xs i d)) + count p (without i xs) ≡ count p xs
+unfolding without
+count-delete p [] i d h = absurd (not-suc-le-zero h)
+count-delete p (x ∷ xs) zero d h = refl
+count-delete p (x ∷ xs) (suc i) d h = omega (arith, count-delete p xs i d (le-of-suc-le-suc h))
+
+pub length-delete : {A : Type 0} (xs : List A) (i : ℕ) → i < length xs → suc (length (without i xs)) ≡ length xs
+unfolding without
+length-delete [] i h = absurd (not-suc-le-zero h)
+length-delete (x ∷ xs) zero h = refl
+length-delete (x ∷ xs) (suc i) h = ap suc (length-delete xs i (le-of-suc-le-suc h))
+
+-- ---- every element
+
+abbrev pub Every : {A : Type 0} → (A → Type 0) → List A → Type 0
+Every P [] = Unit {0}
+Every P (x ∷ xs) = P x × Every P xs
+
+pub every-map : {A : Type 0} (P Q : A → Type 0) (xs : List A) → ((x : A) → P x → Q x) → Every P xs → Every Q xs
+every-map P Q [] f h = tt
+every-map P Q (x ∷ xs) f h = (f x (h .0), every-map P Q xs f (h .1))
+
+pub every-append : {A : Type 0} (P : A → Type 0) (xs : List A) (y : A) → Every P xs → P y → Every P (xs ++ y ∷ [])
+every-append P [] y h k = (k, tt)
+every-append P (x ∷ xs) y h k = (h .0, every-append P xs y (h .1) k)
+
+pub every-delete : {A : Type 0} (P : A → Type 0) (xs : List A) (i : ℕ) → Every P xs → Every P (without i xs)
+unfolding without
+every-delete P [] zero h = tt
+every-delete P [] (suc i) h = tt
+every-delete P (x ∷ xs) zero h = h .1
+every-delete P (x ∷ xs) (suc i) h = (h .0, every-delete P xs i (h .1))
+
+pub every-at : {A : Type 0} (P : A → Type 0) (xs : List A) (i : ℕ) (d : A) → i < length xs → Every P xs → P (getD xs i d)
+every-at P [] i d k h = absurd (not-suc-le-zero k)
+every-at P (x ∷ xs) zero d k h = h .0
+every-at P (x ∷ xs) (suc i) d k h = every-at P xs i d (le-of-suc-le-suc k) (h .1)
+
+-- what stays in the list passes the test too
+pub every-keep : {A : Type 0} (P : A → Type 0) (q : A → Bool) (xs : List A) → Every P xs → Every (λ x. P x × (q x ≡ true)) (keep q xs)
+unfolding keep
+every-keep P q [] h = tt
+every-keep P q (x ∷ xs) h = byBool (q x) (λ e. rw (e, keep) ((h .0, e), every-keep P q xs (h .1))) (λ e. rw (e, keep) (every-keep P q xs (h .1)))
+
+-- ---- what is dropped is not counted
+
+pub count-keep : {A : Type 0} (p q : A → Bool) (xs : List A) → Every (λ x. p x ≡ true → q x ≡ true) xs → count p (keep q xs) ≡ count p xs
+unfolding keep
+count-keep p q [] h = refl
+count-keep p q (x ∷ xs) h =
+    byBool (q x)
+    (λ e. rw (e, keep) (omega (arith, count-keep p q xs (h .1))))
+    (λ e. byBool (p x)
+    (λ d. let z : _≡_ {A = Bool} true false = sym (h .0 d) ∙ e in absurd (true≢false z))
+    (λ d. rw (e, keep) (rw d (omega (arith, count-keep p q xs (h .1))))))
+
+pub count-keep-le : {A : Type 0} (p q : A → Bool) (xs : List A) → count p (keep q xs) ≤ count p xs
+unfolding keep
+count-keep-le p q [] = omega arith
+count-keep-le p q (x ∷ xs) = byBool (q x) (λ e. rw (e, keep) (omega (arith, count-keep-le p q xs))) (λ e. rw (e, keep) (omega (arith, count-keep-le p q xs)))
+
+-- ---- sums
+
+unfoldable pub sumTo : ℕ → (ℕ → ℕ) → ℕ
+sumTo zero f = 0
+sumTo (suc n) f = f n + sumTo n f
+
+pub sum-same : (n : ℕ) (f g : ℕ → ℕ) → ((k : ℕ) → k < n → f k ≡ g k) → sumTo n f ≡ sumTo n g
+unfolding sumTo
+sum-same zero f g h = refl
+sum-same (suc n) f g h = omega (arith, h n (omega arith), sum-same n f g (λ k l. h k (omega arith)))
+
+pub sum-le : (n : ℕ) (f g : ℕ → ℕ) → ((k : ℕ) → k < n → f k ≤ g k) → sumTo n f ≤ sumTo n g
+unfolding sumTo
+sum-le zero f g h = omega arith
+sum-le (suc n) f g h = omega (arith, h n (omega arith), sum-le n f g (λ k l. h k (omega arith)))
+
+-- the two differ at m only
+pub sum-at : (n m : ℕ) (f g : ℕ → ℕ) → m < n → ((k : ℕ) → k < n → k ≢ m → f k ≡ g k) → sumTo n f + g m ≡ sumTo n g + f m
+unfolding sumTo
+sum-at zero m f g l h = absurd (not-suc-le-zero l)
+sum-at (suc n) m f g l h =
+    byEq n m
+    (λ e. omega (arith, ap f e, ap g e, sum-same n f g (λ k a. h k (omega arith) (omega arith))))
+    (λ e. omega (arith, h n (omega arith) e, sum-at n m f g (omega arith) (λ k a. h k (omega arith))))
+
+-- ---- one test against another
+
+pub and-le : (c d : Bool) → ind (c && d) ≤ ind d
+and-le true d = omega arith
+and-le false d = omega arith
+
+pub count-le : {A : Type 0} (p q : A → Bool) (xs : List A) → ((x : A) → ind (p x) ≤ ind (q x)) → count p xs ≤ count q xs
+count-le p q [] h = omega arith
+count-le p q (x ∷ xs) h = omega (arith, h x, count-le p q xs h)
+
+-- none is counted: the test fails at each
+pub count-none : {A : Type 0} (p : A → Bool) (xs : List A) → count p xs ≡ 0 → Every (λ x. p x ≡ false) xs
+count-none p [] h = tt
+count-none p (x ∷ xs) h =
+    byBool (p x)
+    (λ e. absurd (omega (arith, ap ind e)))
+    (λ e. (e, count-none p xs (omega arith)))
+
+pub every-zip : {A : Type 0} (P Q : A → Type 0) (xs : List A) → Every P xs → Every Q xs → Every (λ x. P x × Q x) xs
+every-zip P Q [] a b = tt
+every-zip P Q (x ∷ xs) a b = ((a .0, b .0), every-zip P Q xs (a .1) (b .1))
+
+pub count-zero : {A : Type 0} (p : A → Bool) (xs : List A) → Every (λ x. p x ≡ false) xs → count p xs ≡ 0
+count-zero p [] h = refl
+count-zero p (x ∷ xs) h = omega (arith, ap ind (h .0), count-zero p xs (h .1))

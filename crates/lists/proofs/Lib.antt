@@ -1,0 +1,4 @@
+pub mod Rules
+pub mod Scans
+pub mod Keeps
+pub mod Count

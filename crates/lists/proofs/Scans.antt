@@ -1,0 +1,265 @@
+-- The laws that a loop over indices uses, of `all`, `least`, `first` and `keep`.
+-- Assumes nothing.
+use Prim.Native.Nat.{ℕ, zero, suc, _+_, _-_, _≤_, _<_}
+use mathlib.Core.Path.{_≡_, refl, sym, ap, _∙_, subst}
+use mathlib.Core.Logic.{⊎-elim}
+use mathlib.Core.Bool.{Bool, true, false, cond, true≢false, false≢true}
+use mathlib.Core.List.{List, [], _∷_, _++_, append-nil, append-assoc}
+use native.Mathlib.Nat.{le-of-suc-le-suc, not-suc-le-zero, eq-or-lt-of-le, le-refl, le-antisymm, sub-zero}
+use native.Mathlib.Numerals.{add-one}
+use native.Mathlib.Omega.{arith}
+use borrow.Author.Tests.{lt-ltb, le-ltb}
+use lib.Dec.{ltb}
+use lib.ListN.{length, getD, take, drop, set, replicate, length-take, length-append, length-replicate, length-drop, take-append-drop, drop-of-length-le}
+use lib.Seq.{take-suc, drop-cons, set-append-seam, length-take-le, getD-append-add, getD-drop, take-at, set-at, append-snoc, take-all}
+use Rattle.lists.specs.Scan.{all, least, first, keep, padTo, without, upTo, listOf, countTo}
+
+module _ (p : ℕ → Bool) where
+  pub all-none : all p 0 ≡ true
+  unfolding all
+  all-none = refl
+
+  pub all-more : (i : ℕ) → all p i ≡ true → p i ≡ true → all p (i + 1) ≡ true
+  unfolding all
+  all-more i e h = rw (add-one, e, h)
+
+  pub all-fail : (n i : ℕ) → i < n → p i ≡ false → all p n ≡ false
+  unfolding all
+  all-fail zero i l h = absurd (not-suc-le-zero l)
+  all-fail (suc n) i l h =
+      ⊎-elim (λ e. cond-both (all p n) (p n) (ap p (sym e) ∙ h))
+      (λ lt. ap (λ (b : Bool). cond b (p n) false) (all-fail n i lt h))
+      (eq-or-lt-of-le (le-of-suc-le-suc l))
+    where
+      cond-both : (a b : Bool) → b ≡ false → cond a b false ≡ false
+      cond-both true b e = e
+      cond-both false b e = refl
+
+  pub all-at : (n i : ℕ) → all p n ≡ true → i < n → p i ≡ true
+  all-at n i e l = held (p i) (λ h. true≢false (sym e ∙ all-fail n i l h))
+    where
+      held : (b : Bool) → (b ≡ false → ⊥) → b ≡ true
+      held true h = refl
+      held false h = absurd (h refl)
+
+  pub least-none : least p 0 ≡ 0
+  unfolding least
+  least-none = refl
+
+  pub least-more : (i : ℕ) → least p i ≡ i → p i ≡ false → least p (i + 1) ≡ i + 1
+  unfolding least
+  least-more i e h = rw (add-one, e, le-ltb i i (le-refl i), h)
+
+  pub least-found : (n i : ℕ) → i < n → least p i ≡ i → p i ≡ true → least p n ≡ i
+  unfolding least
+  least-found zero i l e h = absurd (not-suc-le-zero l)
+  least-found (suc n) i l e h =
+      ⊎-elim (λ q. subst (λ (k : ℕ). cond (ltb (least p k) k) (least p k) (cond (p k) k (suc k)) ≡ i) q (rw (e, le-ltb i i (le-refl i), h)))
+      (λ lt. rw (least-found n i lt e h, lt-ltb i n lt))
+      (eq-or-lt-of-le (le-of-suc-le-suc l))
+
+  -- what a loop's last line returns
+  pub all-end : (n i : ℕ) → n ≤ i → i ≤ n → all p i ≡ true → true ≡ all p n
+  all-end n i a b e = sym (subst (λ (k : ℕ). all p k ≡ true) (le-antisymm b a) e)
+
+  pub least-end : (n i : ℕ) → n ≤ i → i ≤ n → least p i ≡ i → i ≡ least p n
+  least-end n i a b e = sym e ∙ ap (least p) (le-antisymm b a)
+
+module _ {A : Type 0} (p : A → Bool) (l : List A) (i : ℕ) (d : A) (h : i < length l) where
+  pub first-here : p (getD l i d) ≡ true → first p (drop i l) ≡ 0
+  unfolding first
+  first-here e = rw (drop-cons l i d h, e)
+
+  pub first-later : p (getD l i d) ≡ false → first p (drop i l) ≡ suc (first p (drop (i + 1) l))
+  unfolding first
+  first-later e = rw (add-one, drop-cons l i d h, e)
+
+module _ {A : Type 0} (p : A → Bool) where
+  pub keep-none : keep p [] ≡ []
+  unfolding keep
+  keep-none = refl
+
+  pub keep-append : (a b : List A) → keep p (a ++ b) ≡ keep p a ++ keep p b
+  unfolding keep
+  keep-append [] b = refl
+  keep-append (x ∷ a) b = rw (keep-append a b) (go (p x) (keep p a) (keep p b))
+    where
+      go : (c : Bool) (u v : List A) → cond c (x ∷ (u ++ v)) (u ++ v) ≡ cond c (x ∷ u) u ++ v
+      go true u v = refl
+      go false u v = refl
+
+module _ {A : Type 0} (p : A → Bool) (l : List A) (i : ℕ) (d : A) (h : i < length l) where
+  pub keep-yes : p (getD l i d) ≡ true → keep p (take (i + 1) l) ≡ keep p (take i l) ++ (getD l i d ∷ [])
+  unfolding keep
+  keep-yes e = rw (add-one, take-suc l i d h, keep-append, e)
+
+  pub keep-no : p (getD l i d) ≡ false → keep p (take (i + 1) l) ≡ keep p (take i l)
+  unfolding keep
+  keep-no e = rw (add-one, take-suc l i d h, keep-append, e) (append-nil (keep p (take i l)))
+
+module _ {A : Type 0} (p : A → Bool) where
+  pub length-keep : (l : List A) → length (keep p l) ≤ length l
+  unfolding keep
+  length-keep [] = le-refl 0
+  length-keep (x ∷ l) = go (p x) (keep p l) (length-keep l)
+    where
+      go : (c : Bool) (u : List A) → length u ≤ length l → length (cond c (x ∷ u) u) ≤ suc (length l)
+      go true u h = omega arith
+      go false u h = omega arith
+
+  pub length-keep-take : (i : ℕ) (l : List A) → length (keep p (take i l)) ≤ i
+  length-keep-take i l = omega (arith, length-keep (take i l), length-take i l)
+
+module _ {A : Type 0} (n : ℕ) (d : A) where
+  pub pad-none : padTo n d [] ≡ replicate n d
+  unfolding padTo
+  pad-none = rw sub-zero
+
+  pub pad-more : (xs : List A) (a : A) → length xs < n → set (padTo n d xs) (length xs) a ≡ padTo n d (xs ++ (a ∷ []))
+  unfolding padTo
+  pad-more xs a h =
+      let e : n - length xs ≡ suc (n - (length xs + 1)) = omega arith in
+      rw (e, length-append, set-append-seam, append-assoc)
+
+  pub length-pad : (xs : List A) → length xs ≤ n → length (padTo n d xs) ≡ n
+  unfolding padTo
+  length-pad xs h = simp (length-append, length-replicate) (omega arith)
+
+-- A loop that goes through ms and lays the elements of which p holds into out, from the first of its n slots: i are passed, w are laid.
+pub record Kept {A : Type 0} (p : A → Bool) (ms : List A) (n : ℕ) (d : A) (i w : ℕ) (out : List A) : Type 0 where
+  pub count : w ≡ length (keep p (take i ms))
+  pub slots : out ≡ padTo n d (keep p (take i ms))
+  pub within : w ≤ i
+
+module _ {A : Type 0} (p : A → Bool) (ms : List A) (n : ℕ) (d : A) where
+  pub kept-none : Kept p ms n d 0 0 (replicate n d)
+  unfolding keep
+  kept-none = record { count = refl; slots = sym (pad-none n d); within = le-refl 0 }
+
+  pub kept-yes : (i w : ℕ) (out : List A) → Kept p ms n d i w out → i < length ms → w < n → p (getD ms i d) ≡ true → Kept p ms n d (i + 1) (w + 1) (set out w (getD ms i d))
+  kept-yes i w out k h l e =
+      let c = k .count in
+      let x : length (keep p (take i ms)) < n = omega arith in
+      record {
+        count = rw (keep-yes p ms i d h e, length-append) (omega arith);
+        slots = rw (keep-yes p ms i d h e, ← pad-more n d (keep p (take i ms)) (getD ms i d) x, k .slots, c);
+        within = omega arith;
+      }
+
+  pub kept-no : (i w : ℕ) (out : List A) → Kept p ms n d i w out → i < length ms → p (getD ms i d) ≡ false → Kept p ms n d (i + 1) w out
+  kept-no i w out k h e =
+      let v = k .within in
+      record { count = rw (keep-no p ms i d h e) (k .count); slots = rw (keep-no p ms i d h e) (k .slots); within = omega arith }
+
+-- A loop that moves each element after the k-th down by one place, up to the place i: ms is the list so far.
+module _ {A : Type 0} (d : A) (k : ℕ) (l : List A) (h : k < length l) where
+  length-without : length (without k l) + 1 ≡ length l
+  unfolding without
+  length-without = simp (length-append, length-take, length-drop) (omega arith)
+
+  getD-without : (i : ℕ) → k ≤ i → getD (without k l) i d ≡ getD l (i + 1) d
+  unfolding without
+  getD-without i b =
+      let a : length (take k l) ≡ k = length-take-le k l (omega arith) in
+      let e : i ≡ length (take k l) + (i - k) = omega arith in
+      let s : suc k + (i - k) ≡ i + 1 = omega arith in
+      ap (λ (m : ℕ). getD (take k l ++ drop (suc k) l) m d) e
+      ∙ getD-append-add (take k l) (drop (suc k) l) (i - k) d
+      ∙ getD-drop (suc k) l (i - k) d
+      ∙ ap (λ (m : ℕ). getD l m d) s
+
+  abbrev pub Shifted : ℕ → List A → Type 0
+  Shifted i ms = ms ≡ take i (without k l) ++ drop i l
+
+  pub shift-none : Shifted k l
+  unfolding without
+  shift-none =
+      let a : length (take k l) ≡ k = length-take-le k l (omega arith) in
+      rw (take-at (take k l) (drop (suc k) l) k a, take-append-drop)
+
+  pub shift-more : (i : ℕ) (ms : List A) → Shifted i ms → k ≤ i → i + 1 < length l → Shifted (i + 1) (set ms i (getD ms (i + 1) d))
+  shift-more i ms e b c =
+      let n = length-without in
+      let a : length (take i (without k l)) ≡ i = length-take-le i (without k l) (omega arith) in
+      let v : getD ms (i + 1) d ≡ getD l (i + 1) d =
+      ap (λ (m : List A). getD m (i + 1) d) e
+      ∙ ap (λ (m : ℕ). getD (take i (without k l) ++ drop i l) (m + 1) d) (sym a)
+      ∙ getD-append-add (take i (without k l)) (drop i l) 1 d
+      ∙ getD-drop i l 1 d in
+      ap (λ (m : List A). set m i (getD ms (i + 1) d)) (e ∙ ap (λ (r : List A). take i (without k l) ++ r) (drop-cons l i d (omega arith)))
+      ∙ set-at (take i (without k l)) (getD l i d) (drop (suc i) l) (getD ms (i + 1) d) i a
+      ∙ ap (λ (x : A). take i (without k l) ++ x ∷ drop (suc i) l) (v ∙ sym (getD-without i b))
+      ∙ sym (append-snoc (take i (without k l)) (getD (without k l) i d) (drop (suc i) l))
+      ∙ ap (λ (r : List A). r ++ drop (suc i) l) (sym (take-suc (without k l) i d (omega arith)))
+      ∙ ap (λ (m : ℕ). take m (without k l) ++ drop m l) (sym (add-one i))
+
+  pub shift-end : (i : ℕ) (ms : List A) → Shifted i ms → i + 1 ≡ length l → set ms i d ≡ without k l ++ (d ∷ [])
+  shift-end i ms e c =
+      let n = length-without in
+      let a : length (take i (without k l)) ≡ i = length-take-le i (without k l) (omega arith) in
+      ap (λ (m : List A). set m i d) (e ∙ ap (λ (r : List A). take i (without k l) ++ r) (drop-cons l i d (omega arith)))
+      ∙ set-at (take i (without k l)) (getD l i d) (drop (suc i) l) d i a
+      ∙ ap (λ (r : List A). take i (without k l) ++ d ∷ r) (drop-of-length-le l {i = suc i} (omega arith))
+      ∙ ap (λ (r : List A). r ++ (d ∷ [])) (take-all i (without k l) (omega arith))
+
+-- A loop that does f at each index.
+module _ {A : Type 0} (f : ℕ → A → A) (x : A) where
+  pub up-none : x ≡ upTo f 0 x
+  unfolding upTo
+  up-none = refl
+
+  pub up-more : (i : ℕ) (u : A) → u ≡ upTo f i x → f i u ≡ upTo f (i + 1) x
+  unfolding upTo
+  up-more i u e = rw (add-one, e)
+
+  pub up-end : (n i : ℕ) (u : A) → n ≤ i → i ≤ n → u ≡ upTo f i x → u ≡ upTo f n x
+  up-end n i u a b e = e ∙ ap (λ (k : ℕ). upTo f k x) (le-antisymm b a)
+
+-- A loop that fills the first of n slots with f 0, f 1, ..
+module _ {A : Type 0} (f : ℕ → A) (n : ℕ) (d : A) where
+  length-list : (i : ℕ) → length (listOf f i) ≡ i
+  unfolding listOf
+  length-list zero = refl
+  length-list (suc i) = length-append (listOf f i) (f i ∷ []) ∙ ap (λ (k : ℕ). k + 1) (length-list i) ∙ add-one i
+
+  pub list-none : replicate n d ≡ padTo n d (listOf f 0)
+  unfolding listOf
+  list-none = sym (pad-none n d)
+
+  pub list-more : (i : ℕ) (out : List A) → i < n → out ≡ padTo n d (listOf f i) → set out i (f i) ≡ padTo n d (listOf f (i + 1))
+  unfolding listOf
+  list-more i out h e =
+      let s = length-list i in
+      ap (λ (r : List A). set r i (f i)) e
+      ∙ ap (λ (k : ℕ). set (padTo n d (listOf f i)) k (f i)) (sym s)
+      ∙ pad-more n d (listOf f i) (f i) (omega arith)
+      ∙ ap (λ (k : ℕ). padTo n d (listOf f k)) (sym (add-one i))
+
+  pub list-end : (m i : ℕ) (out : List A) → m ≤ i → i ≤ m → out ≡ padTo n d (listOf f i) → out ≡ padTo n d (listOf f m)
+  list-end m i out a b e = e ∙ ap (λ (k : ℕ). padTo n d (listOf f k)) (le-antisymm b a)
+
+-- A loop that counts the indices that pass p.
+module _ (p : ℕ → Bool) where
+  pub count-none : 0 ≡ countTo p 0
+  unfolding countTo
+  count-none = refl
+
+  pub count-yes : (i n : ℕ) → n ≡ countTo p i → p i ≡ true → n + 1 ≡ countTo p (i + 1)
+  unfolding countTo
+  count-yes i n e h = add-one n ∙ rw (add-one i, h) (ap suc e)
+
+  pub count-no : (i n : ℕ) → n ≡ countTo p i → p i ≡ false → n ≡ countTo p (i + 1)
+  unfolding countTo
+  count-no i n e h = rw (add-one i, h) e
+
+  pub count-end : (n i x : ℕ) → n ≤ i → i ≤ n → x ≡ countTo p i → x ≡ countTo p n
+  count-end n i x a b e = e ∙ ap (countTo p) (le-antisymm b a)
+
+  pub count-most : (n : ℕ) → countTo p n ≤ n
+  unfolding countTo
+  count-most zero = le-refl 0
+  count-most (suc n) = go (p n) (countTo p n) (count-most n)
+    where
+      go : (b : Bool) (x : ℕ) → x ≤ n → cond b (suc x) x ≤ suc n
+      go true x h = omega arith
+      go false x h = omega arith
