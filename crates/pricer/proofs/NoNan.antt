@@ -7,7 +7,7 @@ use lib.Dec.{T}
 use lib.Ieee.{Float, le, isNan}
 use lib.Ieee.Fits.{and-l, and-r}
 use lib.Ieee.Positive.{positive}
-use Rattle.lists.proofs.Count.{and-right}
+use Rattle.lists.proofs.Cases.{and-right}
 use Rattle.pricer.specs.Price.{one, two, hundred, perPeriod, divisor, zeroAfter, fixedAfter, priceBy, priceOf}
 use Rattle.pricer.specs.Range.{nought, lowestYield, highestYield, yieldInRange, periodsInRange, termsInRange, inRange}
 use Rattle.pricer.specs.declared.Terms.{Terms}
