@@ -1,6 +1,6 @@
 -- The protocol's invariant, clause by clause, over a table and a list of messages: those in flight, and while one is being handled that one too.
 -- Conserved: the reserved copies and the messages about them. Trip: a job's way from machine to machine, and where its current copy is.
--- Side: who has been told of whom, and what is reserved or runs. The table is read through its views alone. What check 9 says of a table is in Facts.
+-- Side: who has been told of whom, and what is reserved or runs. The table is read through its views alone. What check 9 says of a table is in the record Facts.
 -- Assumes nothing.
 use mathlib.Core.Path.{_≡_}
 use mathlib.Core.Logic.{_≢_}
@@ -12,40 +12,11 @@ use Rattle.table.specs.declared.Job.{Job}
 use Rattle.table.specs.declared.Machine.{Machine}
 use Rattle.table.specs.declared.Message.{Message}
 use Rattle.table.specs.declared.Table.{Table}
-use Rattle.table.specs.Views.{jobAt, nodeAt, poolAt, toldAt, flight, noJob, noMachine}
+use Rattle.table.specs.Views.{jobAt, nodeAt, poolAt, toldAt, flight}
 use Rattle.table.specs.Parts.{copyIs, reserves, REQ, AUTH, DENIED, OBSOLETE, SCHEDULE, ACK, RESULT}
-use Rattle.elements.specs.Elements.{withCopy, toRoot}
 use Rattle.table.proofs.Views.{Sized}
 use Rattle.lists.proofs.Count.{ind, count, Every}
-
--- ---- what check 9 says
-
--- a message in flight, or one that has just been taken off
-pub record Shape (t : Table) (x : Message) : Type 0 where
-  pub low : 1 ≤ x .kind
-  pub high : x .kind ≤ 9
-  pub from : x .from < 16
-  pub to : x .to < 16
-  pub job : x .job < 64
-  pub thief : x .thief < 16
-  pub live : nodeAt t (x .to) .alive ≡ 1
-  pub root : toRoot (x .kind) ≡ true → x .to ≡ 0
-  pub copy : withCopy (x .kind) ≡ true → 1 ≤ x .replica
-
-pub record Facts (t : Table) : Type 0 where
-  pub root : nodeAt t 0 .alive ≡ 1
-  pub dead : (m : ℕ) → m < 16 → nodeAt t m .alive ≢ 1 → nodeAt t m ≡ noMachine
-  pub empty : (m j : ℕ) → m < 16 → j < 64 → nodeAt t m .alive ≢ 1 → poolAt t m j ≡ 0
-  pub told : (m d : ℕ) → m < 16 → d < 16 → nodeAt t d .alive ≡ 1 → toldAt t m d ≡ 0
-  pub shape : Every (Shape t) (flight t)
-  pub fresh : (j : ℕ) → j < 64 → jobAt t j .state ≡ 0 → jobAt t j ≡ noJob
-  pub replica : (j : ℕ) → j < 64 → jobAt t j .state ≢ 0 → 1 ≤ jobAt t j .replica
-  pub moving : (j : ℕ) → j < 64 → jobAt t j .moving ≤ 1
-  pub holder : (j : ℕ) → j < 64 → jobAt t j .holder < 16
-  pub thief : (j : ℕ) → j < 64 → jobAt t j .thief < 16
-  pub «reserved-job» : (m : ℕ) → m < 16 → nodeAt t m .«reserved_job» < 64
-  pub «reserved-thief» : (m : ℕ) → m < 16 → nodeAt t m .«reserved_thief» < 16
-  pub «running-job» : (m : ℕ) → m < 16 → nodeAt t m .«running_job» < 64
+use Rattle.preservation.proofs.Facts.{Facts, MessageFacts}
 
 -- ---- the messages that the clauses count
 
@@ -170,3 +141,10 @@ pub record Whole (t : Table) : Type 0 where
   pub conserved : Conserved t (flight t)
   pub trip : Trip t (flight t)
   pub side : Side t (flight t)
+
+-- a message x that was taken off, and the table s that is left for its handler
+pub record Hand (s : Table) (x : Message) : Type 0 where
+  pub sized : Sized s
+  pub room : s .«in_flight» < 128
+  pub facts : Facts s
+  pub message : MessageFacts s x
