@@ -1,1 +1,4 @@
 pub mod State
+pub mod TripLaws
+pub mod TripFrame
+pub mod TripCopies
