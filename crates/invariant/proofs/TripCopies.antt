@@ -10,9 +10,9 @@ use borrow.Author.Tests.{eq-eqb, ne-eqb, eqb-true}
 use Rattle.table.specs.declared.Machine.{Machine}
 use Rattle.table.specs.declared.Table.{Table}
 use Rattle.table.specs.Views.{jobAt, nodeAt, poolAt, toldAt, flight, withNode, withPool, enter}
-use Rattle.table.specs.Parts.{release, waiting, returned}
-use Rattle.table.proofs.Views.{Sized, views, sized-pool, sized-node, node-same, node-other, node-pool, pool-node, pool-same, pool-other-job, pool-other-node, alive-node}
-use Rattle.lists.proofs.Cases.{byBool, byEq, and-left, and-right}
+use Rattle.table.specs.Parts.{reserve, release, running, waiting, returned}
+use Rattle.table.proofs.Views.{Sized, views, sized-pool, node-same, node-other, node-pool, pool-node, pool-same, pool-other-job, pool-other-node, alive-node}
+use Rattle.lists.proofs.Cases.{byBool, byEq, and-left, and-right, and-false}
 use Rattle.lists.proofs.Count.{ind}
 use Rattle.invariant.proofs.State.{reservesJob, runsJob, has, dead}
 use Rattle.invariant.proofs.TripLaws.{dead-same}
@@ -138,10 +138,6 @@ module _ (t : Table) (a : ℕ) (z : Sized t) (al : a < 16) where
   unfolding enter
   returned-node k = node-pool t a _ _ k
 
-  pub returned-sized : Sized (returned t a)
-  unfolding returned enter
-  returned-sized = sized-node _ a _ (sized-pool t a _ _ z)
-
   pub returned-alive : (k : ℕ) → nodeAt (returned t a) k .alive ≡ nodeAt t k .alive
   unfolding returned enter
   returned-alive k =
@@ -161,10 +157,6 @@ module _ (t : Table) (a : ℕ) (z : Sized t) (al : a < 16) where
   pub returned-flight : flight (returned t a) ≡ flight t
   unfolding returned enter
   returned-flight = simp views
-
-  pub returned-used : returned t a .«in_flight» ≡ t .«in_flight»
-  unfolding returned enter
-  returned-used = simp views
 
   module _ (hj : nodeAt t a .«reserved_job» < 64) (hr : nodeAt t a .«reserved_replica» ≤ jobAt t (nodeAt t a .«reserved_job») .replica) (pools : (m j : ℕ) → m < 16 → j < 64 → poolAt t m j ≤ jobAt t j .replica) where
     pub pools-returned : (m j : ℕ) → m < 16 → j < 64 → poolAt (returned t a) m j ≤ jobAt t j .replica
@@ -192,3 +184,51 @@ module _ (t : Table) (a : ℕ) (z : Sized t) (al : a < 16) where
         omega (arith, has-by-pool u j r p pu))
         (λ v. omega (arith, has-node-other q a p (release n) j r v)))
         (λ f. omega (arith, has-release q a p j r n qz al (returned-node a) f))
+
+-- ---- a copy goes from the pool of a machine to its record
+
+-- a copy of a replica number of 1 or more is there
+copy-some : (i q j r : ℕ) → 1 ≤ r → not (eqb q 0) && (eqb i j && eqb q r) ≡ eqb i j && eqb q r
+copy-some i q j r h =
+    byEq q 0
+    (λ e. rw (eq-eqb q 0 e, ne-eqb q r (λ f. omega arith)) (sym (and-false (eqb i j))))
+    (λ e. rw (ne-eqb q 0 e))
+
+-- it becomes the reserved copy
+pub reserves-taken : (n : Machine) (i q th j r : ℕ) → 1 ≤ r → reservesJob n j r ≡ false
+    → ind (reservesJob (reserve n i q th) j r) + ind (runsJob (reserve n i q th) j r) ≡ ind (reservesJob n j r) + ind (runsJob n j r) + ind (eqb i j && eqb q r)
+reserves-taken n i q th j r h f =
+    let a : reservesJob (reserve n i q th) j r ≡ eqb i j && eqb q r = unfold reservesJob reserve in copy-some i q j r h in
+    let b : runsJob (reserve n i q th) j r ≡ runsJob n j r = unfold runsJob reserve in refl in
+    omega (arith, ap ind a, ap ind b, ap ind f)
+
+-- it becomes the running copy
+pub runs-taken : (n : Machine) (i q j r : ℕ) → 1 ≤ r → runsJob n j r ≡ false
+    → ind (reservesJob (running n i q) j r) + ind (runsJob (running n i q) j r) ≡ ind (reservesJob n j r) + ind (runsJob n j r) + ind (eqb i j && eqb q r)
+runs-taken n i q j r h f =
+    let a : reservesJob (running n i q) j r ≡ reservesJob n j r = unfold reservesJob running in refl in
+    let b : runsJob (running n i q) j r ≡ eqb i j && eqb q r = unfold runsJob running in copy-some i q j r h in
+    omega (arith, ap ind a, ap ind b, ap ind f)
+
+pub has-taken : (t : Table) (b i : ℕ) (v : Machine) (j r p : ℕ) → Sized t → b < 16 → i < 64 → j < 64 → 1 ≤ r → v .alive ≡ nodeAt t b .alive
+    → ind (reservesJob v j r) + ind (runsJob v j r) ≡ ind (reservesJob (nodeAt t b) j r) + ind (runsJob (nodeAt t b) j r) + ind (eqb i j && eqb (poolAt t b i) r)
+    → has (withNode (withPool t b i 0) b v) j r p ≡ has t j r p
+has-taken t b i v j r p z h il jl rl al e =
+    let q = withPool t b i 0 in
+    let u = withNode q b v in
+    let qz : Sized q = sized-pool t b i 0 z in
+    let qn : nodeAt q b ≡ nodeAt t b = node-pool t b i 0 b in
+    byEq p b
+    (λ f.
+    let nd : has u j r b + (ind (reservesJob (nodeAt t b) j r) + ind (runsJob (nodeAt t b) j r)) ≡ has q j r b + (ind (reservesJob v j r) + ind (runsJob v j r)) = rw qn at (has-node q b v j r qz h (rw qn al)) in
+    let zr : eqb 0 r ≡ false = ne-eqb 0 r (λ d. omega arith) in
+    let same : has u j r b ≡ has t j r b =
+    byEq j i
+    (λ o.
+    let own : eqb i j && eqb (poolAt t b i) r ≡ eqb (poolAt t b i) r = rw (eq-eqb i j (sym o)) in
+    omega (arith, ap ind own, ap ind zr, has-pool t b i 0 r z h il, ap (λ (a : ℕ). has q a r b) o, ap (λ (a : ℕ). has t a r b) o))
+    (λ o.
+    let other : eqb i j && eqb (poolAt t b i) r ≡ false = rw (ne-eqb i j (λ d. o (sym d))) in
+    omega (arith, ap ind other, has-pool-other-job t b i 0 j r b il jl o)) in
+    omega (arith, ap (has t j r) f, ap (has u j r) f))
+    (λ f. omega (arith, has-node-other q b p v j r f, has-pool-other-node t b i 0 j r p il jl f))

@@ -8,19 +8,16 @@ use Prim.Native.Nat.{ℕ, _+_, _≤_, _<_, min}
 use native.Mathlib.Omega.{arith}
 use lib.Dec.{eqb}
 use lib.ListN.{length, getD}
-use borrow.Author.Tests.{ne-eqb, eqb-false}
+use borrow.Author.Tests.{ne-eqb}
 use Rattle.table.specs.declared.Job.{Job}
 use Rattle.table.specs.declared.Message.{Message}
 use Rattle.table.specs.declared.Table.{Table}
-use Rattle.table.specs.Views.{noMessage, jobAt, nodeAt, poolAt, flight}
-use Rattle.table.specs.Messages.{push, send}
-use Rattle.table.proofs.Views.{Sized, views}
-use Rattle.table.proofs.Messages.{flight-push}
+use Rattle.table.specs.Views.{noMessage, jobAt, nodeAt, poolAt}
 use Rattle.lists.specs.Scan.{without}
 use Rattle.lists.proofs.Cases.{byBool, byEq}
 use Rattle.lists.proofs.Count.{ind, count, count-append, count-delete, Every, every-map, every-append, every-at, every-delete}
 use Rattle.invariant.proofs.State.{Trip, Known, Ends, trip, isTrip, ackFrom, resultFrom, dead, has, held}
-use Rattle.invariant.proofs.TripLaws.{dead-is, dead-same, trip-eqs, trip-kinds, trip-other, ack-other, ack-trip, acks-trips, result-other, has-same, known-job}
+use Rattle.invariant.proofs.TripLaws.{dead-is, dead-same, trip-eqs, trip-kinds, trip-other, ack-other, ack-trip, acks-trips, result-other, known-job, known-plain, Places}
 
 -- the jobs are the same: the clauses of u, over the jobs of t
 pub trip-frame : (t u : Table) (l : List Message) → ((j : ℕ) → jobAt u j ≡ jobAt t j)
@@ -100,19 +97,12 @@ trip-dropped t x l gone n7 n9 i =
 
 -- ---- the empty message counts for nothing
 
-pub known-none : (t : Table) → Known t noMessage
-known-none t = record {
-  cap = omega arith;
-  old = λ (e : _≡_ {A = ℕ} 0 5). absurd (omega arith);
-  ends = λ b c. record { auth = λ (e : _≡_ {A = ℕ} 0 3). absurd (omega arith); schedule = λ (e : _≡_ {A = ℕ} 0 6). absurd (omega arith); ack = λ (e : _≡_ {A = ℕ} 0 7). absurd (omega arith) };
-}
-
 pub trip-nothing : (t : Table) (l : List Message) → Trip t l → Trip t (noMessage ∷ l)
 unfolding held
 trip-nothing t l i =
     let tr : (j r : ℕ) → trip j r noMessage ≡ false = λ j r. trip-other 0 j r noMessage refl (unfold isTrip in refl) in
     let ak : (j r p : ℕ) → ackFrom j r p noMessage ≡ false = λ j r p. ack-other 0 j r p noMessage refl refl in
-    trip-frame t t (noMessage ∷ l) (λ j. refl) (known-none t, i .known) (i .pools)
+    trip-frame t t (noMessage ∷ l) (λ j. refl) (known-plain t noMessage 0 refl (unfold isTrip in refl) refl (omega arith), i .known) (i .pools)
     (λ j a b. omega (arith, i .moves j a b, ap ind (tr j (jobAt t j .replica))))
     (λ j a b c. omega (arith, i .on j a b c))
     (λ j a b c. omega (arith, i .moved j a b c))
@@ -121,8 +111,7 @@ trip-nothing t l i =
 -- ---- another message takes the place of one, in a table where no machine has lost the current copy
 
 module _ (t u : Table) (x y : Message) (l : List Message)
-    (flag : (j : ℕ) → j < 64 → jobAt t j .state ≡ 1 → jobAt t j .moving ≤ 1)
-    (spot : (j : ℕ) → j < 64 → jobAt t j .state ≡ 1 → jobAt t j .holder < 16)
+    (places : Places t)
     (jb : (j : ℕ) → jobAt u j ≡ jobAt t j)
     (al : (k : ℕ) → nodeAt u k .alive ≡ nodeAt t k .alive)
     (pl : (m j : ℕ) → m < 16 → j < 64 → poolAt u m j ≤ jobAt t j .replica)
@@ -136,7 +125,7 @@ module _ (t u : Table) (x y : Message) (l : List Message)
   on′ j a b c =
       byBool (trip j (jobAt t j .replica) x)
       (λ e. absurd (omega (arith, ap ind e, i .moves j a b)))
-      (λ e. omega (arith, i .on j a b c, kept j (jobAt t j .holder) a (spot j a b) b e))
+      (λ e. omega (arith, i .on j a b c, kept j (jobAt t j .holder) a (places j a .1) b e))
 
   acked′ : (j p : ℕ) → j < 64 → p < 16 → jobAt t j .state ≡ 1 → 1 ≤ count (ackFrom j (jobAt t j .replica) p) (y ∷ l) → 1 ≤ held u (y ∷ l) j (jobAt t j .replica) p
   unfolding held
@@ -145,7 +134,7 @@ module _ (t u : Table) (x y : Message) (l : List Message)
       byBool (trip j r x)
       (λ e. byBool (ackFrom j r p y)
       (λ f. omega (arith, own j p a b c f))
-      (λ f. absurd (omega (arith, ap ind e, ap ind f, i .moves j a c, flag j a c, acks-trips j r p l))))
+      (λ f. absurd (omega (arith, ap ind e, ap ind f, i .moves j a c, places j a .0, acks-trips j r p l))))
       (λ e.
       let f : ind (ackFrom j r p y) ≡ 0 = omega (arith, ack-trip j r p y, ap ind (tr j a c), ap ind e) in
       omega (arith, i .acked j p a b c (omega arith), kept j p a b c e))

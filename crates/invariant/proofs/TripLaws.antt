@@ -12,6 +12,7 @@ use Rattle.table.specs.declared.Table.{Table}
 use Rattle.table.specs.Views.{jobAt, nodeAt, poolAt}
 use Rattle.lists.proofs.Cases.{byBool, and-left, and-right}
 use Rattle.lists.proofs.Count.{ind, count, and-le, count-le}
+use Rattle.preservation.proofs.Facts.{Facts}
 use Rattle.invariant.proofs.State.{Known, trip, isTrip, ackFrom, resultFrom, dead, has}
 
 -- ---- a dead machine
@@ -94,3 +95,26 @@ known-job t u x jb k = record {
   old = rw jb (k .old);
   ends = rw jb (λ a b. record { auth = rw jb (k .ends a b .auth); schedule = rw jb (k .ends a b .schedule); ack = rw jb (k .ends a b .ack) });
 }
+
+not-trip : (k c : ℕ) → isTrip k ≡ false → isTrip c ≡ true → k ≡ c → ⊥
+not-trip k c a b e = true≢false (sym b ∙ ap isTrip (sym e) ∙ a)
+
+-- a message of another kind than AUTH, OBSOLETE, SCHEDULE and ACK says only that its replica number is not above the job's
+pub known-plain : (t : Table) (y : Message) (k : ℕ) → y .kind ≡ k → isTrip k ≡ false → eqb k 5 ≡ false → y .replica ≤ jobAt t (y .job) .replica → Known t y
+known-plain t y k ey tk ok c = record {
+  cap = c;
+  old = λ e. absurd (eqb-false k 5 ok (sym ey ∙ e));
+  ends = λ a b. record {
+    auth = λ e. absurd (not-trip k 3 tk (unfold isTrip in refl) (sym ey ∙ e));
+    schedule = λ e. absurd (not-trip k 6 tk (unfold isTrip in refl) (sym ey ∙ e));
+    ack = λ e. absurd (not-trip k 7 tk (unfold isTrip in refl) (sym ey ∙ e));
+  };
+}
+
+-- ---- what check 9 says of a job's place, as these clauses use it
+
+abbrev pub Places : Table → Type 0
+Places t = (j : ℕ) → j < 64 → (jobAt t j .moving ≤ 1) × (jobAt t j .holder < 16)
+
+pub places : (t : Table) → Facts t → Places t
+places t f j h = (f .job j h .moving, f .job j h .holder)
