@@ -5,3 +5,5 @@ pub mod TripCopies
 pub mod TripSend
 pub mod TripAnswers
 pub mod TripPools
+pub mod TripJob
+pub mod TripPlaces
