@@ -1,1 +1,4 @@
 pub mod State
+pub mod Flight
+pub mod Frame
+pub mod About
