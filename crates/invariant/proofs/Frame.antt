@@ -11,7 +11,7 @@ use Rattle.table.specs.declared.Message.{Message}
 use Rattle.table.specs.declared.Table.{Table}
 use Rattle.table.specs.Views.{jobAt, nodeAt, poolAt, toldAt, flight, withJob, withNode, withPool, enter}
 use Rattle.table.specs.Parts.{release, returned}
-use Rattle.table.proofs.Views.{Sized, views, sized-job, sized-node, sized-pool, node-same, node-other}
+use Rattle.table.proofs.Views.{Sized, views, sized-job, sized-node, sized-pool, node-same, node-other, node-pool}
 use Rattle.preservation.proofs.Sizes.{sized-enter}
 
 pub record Frame (s u : Table) : Type 0 where
@@ -56,6 +56,14 @@ module _ (s u : Table) (f : Frame s u) where
 pub frame-returned : (s : Table) (b : ℕ) → Sized s → b < 16 → Frame s (returned s b)
 unfolding returned release
 frame-returned s b z bl = frame-node s _ (frame-enter s s (frame-refl s z) b _ _) b _ bl refl
+
+pub node-returned : (s : Table) (b : ℕ) → Sized s → b < 16 → nodeAt (returned s b) b ≡ release (nodeAt s b)
+unfolding returned
+node-returned s b z bl = node-same _ (sized-enter s b (nodeAt s b .«reserved_job») (nodeAt s b .«reserved_replica») z) b (release (nodeAt s b)) bl
+
+pub node-returned-other : (s : Table) (b k : ℕ) → k ≢ b → nodeAt (returned s b) k ≡ nodeAt s k
+unfolding returned enter
+node-returned-other s b k e = rw (node-other, node-pool)
 
 pub node-enter : (t : Table) (m j r k : ℕ) → nodeAt (enter t m j r) k ≡ nodeAt t k
 unfolding enter

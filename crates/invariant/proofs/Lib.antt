@@ -1,4 +1,9 @@
 pub mod State
 pub mod Flight
 pub mod Frame
+pub mod Lowest
 pub mod About
+pub mod ConservedFrame
+pub mod ConservedAnswers
+pub mod ConservedOthers
+pub mod ConservedFish
