@@ -2,8 +2,12 @@ pub mod State
 pub mod Flight
 pub mod Frame
 pub mod Lowest
+pub mod Died
 pub mod About
 pub mod ConservedFrame
 pub mod ConservedAnswers
 pub mod ConservedOthers
 pub mod ConservedFish
+pub mod ConservedDeliver
+pub mod ConservedEvents
+pub mod ConservedDie
