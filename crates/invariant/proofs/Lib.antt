@@ -3,6 +3,8 @@ pub mod Flight
 pub mod Frame
 pub mod Lowest
 pub mod Died
+pub mod Quieted
+pub mod Reissued
 pub mod About
 pub mod ConservedFrame
 pub mod ConservedAnswers
