@@ -13,3 +13,4 @@ pub mod ConservedFish
 pub mod ConservedDeliver
 pub mod ConservedEvents
 pub mod ConservedDie
+pub mod ConservedNotice
