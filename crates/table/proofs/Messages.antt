@@ -14,7 +14,7 @@ use Rattle.table.specs.Views.{noMessage, nodeAt, flight, messageAt, with
 use Rattle.table.specs.Messages.{push, pull, sift, send}
 use Rattle.lists.specs.Scan.{without, keep, padTo}
 use lib.Dec.{eqb}
-use Rattle.lists.proofs.Count.{byBool}
+use Rattle.lists.proofs.Cases.{byBool}
 use Rattle.lists.proofs.Scans.{pad-more, length-pad, length-keep}
 use Rattle.table.proofs.Views.{Sized, sized-messages, length-flight}
 

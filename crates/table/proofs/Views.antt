@@ -11,7 +11,7 @@ use Rattle.table.specs.declared.Job.{Job}
 use Rattle.table.specs.declared.Machine.{Machine}
 use Rattle.table.specs.declared.Message.{Message}
 use Rattle.table.specs.declared.Table.{Table}
-use Rattle.lists.proofs.Count.{byEq}
+use Rattle.lists.proofs.Cases.{byEq}
 use Rattle.table.specs.Views.{noJob, noMachine, bondAt, jobAt, nodeAt, poolAt, toldAt, messageAt, flight, withJob, withNode, withPool, withTold, withMessages}
 
 -- the arrays have their lengths

@@ -9,7 +9,7 @@ use Rattle.table.specs.declared.Table.{Table}
 use Rattle.lists.specs.Scan.{upTo}
 use Rattle.table.specs.Views.{bondAt, jobAt, nodeAt, poolAt, toldAt, messageAt, flight, withPool}
 use Rattle.table.specs.Messages.{wipe}
-use Rattle.lists.proofs.Count.{byEq}
+use Rattle.lists.proofs.Cases.{byEq}
 use Rattle.table.proofs.Views.{Sized, sized-pool, pool-same, pool-other-job, pool-other-node, bond-pool, message-pool, job-pool, node-pool, told-pool, flight-pool, machines-pool, entries-pool, bonds-pool, used-pool, slots-pool}
 
 module _ (t : Table) (m : ℕ) where
