@@ -1,2 +1,5 @@
+pub mod Ok
 pub mod Facts
+pub mod Updates
+pub mod Told
 pub mod Sizes
