@@ -117,6 +117,9 @@ module _ (M E B j : ℕ) (v : Job) where
     front : admittedOk v && copyOk E B j (v .replica) ≡ true
     front = and-left (admittedOk v && copyOk E B j (v .replica)) (placeOk M v) whole
 
+    pub job-state : admittedOk v ≡ true
+    job-state = and-left (admittedOk v) (copyOk E B j (v .replica)) front
+
     pub job-copy : copyOk E B j (v .replica) ≡ true
     job-copy = and-right (admittedOk v) (copyOk E B j (v .replica)) front
 
@@ -156,13 +159,13 @@ module _ (M E B m : ℕ) (n : Machine) (g : nodeOk M E B m n ≡ true) (al : n .
   full : ltb m M && eqb (n .alive) 1 && leb (n .waits) M && reservedOk M E B n && runningOk E B n ≡ true
   full = or-elim (emptyNode n) _ g (rw (ne-eqb (n .alive) 0 (λ e. omega arith)))
 
-  runs : runningOk E B n ≡ true
+  pub runs : runningOk E B n ≡ true
   runs = and-right (ltb m M && eqb (n .alive) 1 && leb (n .waits) M && reservedOk M E B n) (runningOk E B n) full
 
   rest : ltb m M && eqb (n .alive) 1 && leb (n .waits) M && reservedOk M E B n ≡ true
   rest = and-left (ltb m M && eqb (n .alive) 1 && leb (n .waits) M && reservedOk M E B n) (runningOk E B n) full
 
-  reserved : reservedOk M E B n ≡ true
+  pub reserved : reservedOk M E B n ≡ true
   reserved = and-right (ltb m M && eqb (n .alive) 1 && leb (n .waits) M) (reservedOk M E B n) rest
 
   head : ltb m M && eqb (n .alive) 1 && leb (n .waits) M ≡ true
