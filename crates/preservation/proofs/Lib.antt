@@ -1,2 +1,6 @@
+pub mod Ok
 pub mod Facts
+pub mod Updates
+pub mod Told
+pub mod Passed
 pub mod Sizes
