@@ -9,11 +9,13 @@ use lib.Dec.{eqb}
 use borrow.Author.Tests.{eq-eqb, ne-eqb, eqb-true}
 use Rattle.table.specs.declared.Machine.{Machine}
 use Rattle.table.specs.declared.Table.{Table}
-use Rattle.table.specs.Views.{jobAt, nodeAt, poolAt, toldAt, flight, withNode, withPool, enter}
+use Rattle.table.specs.Views.{jobAt, nodeAt, poolAt, withNode, withPool, enter}
 use Rattle.table.specs.Parts.{reserve, release, running, waiting, returned}
-use Rattle.table.proofs.Views.{Sized, views, sized-pool, node-same, node-other, node-pool, pool-node, pool-same, pool-other-job, pool-other-node, alive-node}
+use Rattle.table.proofs.Views.{Sized, sized-pool, node-same, node-other, node-pool, pool-node, pool-same, pool-other-job, pool-other-node, alive-node}
+use Rattle.preservation.proofs.Sizes.{sized-enter}
 use Rattle.lists.proofs.Cases.{byBool, byEq, and-left, and-right, and-false}
 use Rattle.lists.proofs.Count.{ind}
+use Rattle.invariant.proofs.Frame.{node-enter}
 use Rattle.invariant.proofs.State.{reservesJob, runsJob, has, dead}
 use Rattle.invariant.proofs.TripLaws.{dead-same}
 
@@ -31,15 +33,6 @@ has-node t b v j r z h e =
 pub has-node-other : (t : Table) (b p : ℕ) (v : Machine) (j r : ℕ) → p ≢ b → has (withNode t b v) j r p ≡ has t j r p
 unfolding has dead
 has-node-other t b p v j r e = simp (node-other t b p v e, pool-node)
-
--- what a release and a wait leave
-pub release-alive : (n : Machine) → release n .alive ≡ n .alive
-unfolding release
-release-alive n = refl
-
-pub waiting-alive : (n : Machine) (w : ℕ) → waiting n w .alive ≡ n .alive
-unfolding waiting
-waiting-alive n w = refl
 
 pub has-release : (t : Table) (b p j r : ℕ) (n : Machine) → Sized t → b < 16 → nodeAt t b ≡ n → reservesJob n j r ≡ false → has (withNode t b (release n)) j r p ≡ has t j r p
 has-release t b p j r n z h e f =
@@ -133,57 +126,33 @@ reserves-eqs n j r e =
     let f = and-right (not (eqb (n .«reserved_replica») 0)) (eqb (n .«reserved_job») j && eqb (n .«reserved_replica») r) e in
     (eqb-true _ _ (and-left (eqb (n .«reserved_job») j) (eqb (n .«reserved_replica») r) f), eqb-true _ _ (and-right (eqb (n .«reserved_job») j) (eqb (n .«reserved_replica») r) f))
 
-module _ (t : Table) (a : ℕ) (z : Sized t) (al : a < 16) where
-  returned-node : (k : ℕ) → nodeAt (enter t a (nodeAt t a .«reserved_job») (nodeAt t a .«reserved_replica»)) k ≡ nodeAt t k
-  unfolding enter
-  returned-node k = node-pool t a _ _ k
+module _ (t : Table) (a : ℕ) (z : Sized t) (al : a < 16)
+    (hj : nodeAt t a .«reserved_job» < 64) (hr : nodeAt t a .«reserved_replica» ≤ jobAt t (nodeAt t a .«reserved_job») .replica)
+    (pools : (m j : ℕ) → m < 16 → j < 64 → poolAt t m j ≤ jobAt t j .replica) where
+  pub pools-returned : (m j : ℕ) → m < 16 → j < 64 → poolAt (returned t a) m j ≤ jobAt t j .replica
+  unfolding returned
+  pools-returned m j ml jl = rw pool-node (pools-enter t a (nodeAt t a .«reserved_job») (nodeAt t a .«reserved_replica») z al hj hr pools m j ml jl)
 
-  pub returned-alive : (k : ℕ) → nodeAt (returned t a) k .alive ≡ nodeAt t k .alive
-  unfolding returned enter
-  returned-alive k =
+  -- no machine loses the current copy by it
+  pub has-returned : (j p : ℕ) → j < 64 → min 1 (has t j (jobAt t j .replica) p) ≤ has (returned t a) j (jobAt t j .replica) p
+  unfolding returned
+  has-returned j p jl =
       let n = nodeAt t a in
-      let q = enter t a (n .«reserved_job») (n .«reserved_replica») in
-      let qz : Sized q = sized-pool t a _ _ z in
-      alive-node q a (release n) qz al (release-alive n ∙ ap (λ (m : Machine). m .alive) (sym (returned-node a))) k ∙ ap (λ (m : Machine). m .alive) (returned-node k)
-
-  pub returned-job : (j : ℕ) → jobAt (returned t a) j ≡ jobAt t j
-  unfolding returned enter
-  returned-job j = simp views
-
-  pub returned-told : (m d : ℕ) → toldAt (returned t a) m d ≡ toldAt t m d
-  unfolding returned enter
-  returned-told m d = simp views
-
-  pub returned-flight : flight (returned t a) ≡ flight t
-  unfolding returned enter
-  returned-flight = simp views
-
-  module _ (hj : nodeAt t a .«reserved_job» < 64) (hr : nodeAt t a .«reserved_replica» ≤ jobAt t (nodeAt t a .«reserved_job») .replica) (pools : (m j : ℕ) → m < 16 → j < 64 → poolAt t m j ≤ jobAt t j .replica) where
-    pub pools-returned : (m j : ℕ) → m < 16 → j < 64 → poolAt (returned t a) m j ≤ jobAt t j .replica
-    unfolding returned
-    pools-returned m j ml jl = rw pool-node (pools-enter t a (nodeAt t a .«reserved_job») (nodeAt t a .«reserved_replica») z al hj hr pools m j ml jl)
-
-    -- no machine loses the current copy by it
-    pub has-returned : (j p : ℕ) → j < 64 → min 1 (has t j (jobAt t j .replica) p) ≤ has (returned t a) j (jobAt t j .replica) p
-    unfolding returned
-    has-returned j p jl =
-        let n = nodeAt t a in
-        let k = n .«reserved_job» in
-        let s = n .«reserved_replica» in
-        let q = enter t a k s in
-        let u = withNode q a (release n) in
-        let r = jobAt t j .replica in
-        let qz : Sized q = unfold enter in sized-pool t a k _ z in
-        let mono : has t j r p ≤ has q j r p = has-enter t a k s j r p z al hj jl (λ f. rw f hr) in
-        byBool (reservesJob n j r)
-        (λ f. byEq p a
-        (λ v.
-        let es = reserves-eqs n j r f in
-        let pq : poolAt q a k ≡ s = enter-pool t a k s z al hj (rw (es .0, es .1) (pools a j al jl)) in
-        let pu : poolAt u p j ≡ r = pool-node q a (release n) p j ∙ ap (λ (m : ℕ). poolAt q m j) v ∙ ap (poolAt q a) (sym (es .0)) ∙ pq ∙ es .1 in
-        omega (arith, has-by-pool u j r p pu))
-        (λ v. omega (arith, has-node-other q a p (release n) j r v)))
-        (λ f. omega (arith, has-release q a p j r n qz al (returned-node a) f))
+      let k = n .«reserved_job» in
+      let s = n .«reserved_replica» in
+      let q = enter t a k s in
+      let u = withNode q a (release n) in
+      let r = jobAt t j .replica in
+      let mono : has t j r p ≤ has q j r p = has-enter t a k s j r p z al hj jl (λ f. rw f hr) in
+      byBool (reservesJob n j r)
+      (λ f. byEq p a
+      (λ v.
+      let es = reserves-eqs n j r f in
+      let pq : poolAt q a k ≡ s = enter-pool t a k s z al hj (rw (es .0, es .1) (pools a j al jl)) in
+      let pu : poolAt u p j ≡ r = pool-node q a (release n) p j ∙ ap (λ (m : ℕ). poolAt q m j) v ∙ ap (poolAt q a) (sym (es .0)) ∙ pq ∙ es .1 in
+      omega (arith, has-by-pool u j r p pu))
+      (λ v. omega (arith, has-node-other q a p (release n) j r v)))
+      (λ f. omega (arith, has-release q a p j r n (sized-enter t a k s z) al (node-enter t a k s a) f))
 
 -- ---- a copy goes from the pool of a machine to its record
 

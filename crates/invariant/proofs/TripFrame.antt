@@ -7,15 +7,13 @@ use mathlib.Core.List.{List, [], _∷_, _++_}
 use Prim.Native.Nat.{ℕ, _+_, _≤_, _<_, min}
 use native.Mathlib.Omega.{arith}
 use lib.Dec.{eqb}
-use lib.ListN.{length, getD}
 use borrow.Author.Tests.{ne-eqb}
 use Rattle.table.specs.declared.Job.{Job}
 use Rattle.table.specs.declared.Message.{Message}
 use Rattle.table.specs.declared.Table.{Table}
 use Rattle.table.specs.Views.{noMessage, jobAt, nodeAt, poolAt}
-use Rattle.lists.specs.Scan.{without}
 use Rattle.lists.proofs.Cases.{byBool, byEq}
-use Rattle.lists.proofs.Count.{ind, count, count-append, count-delete, Every, every-map, every-append, every-at, every-delete}
+use Rattle.lists.proofs.Count.{ind, count, count-append, Every, every-map, every-append}
 use Rattle.invariant.proofs.State.{Trip, Known, Ends, trip, isTrip, ackFrom, resultFrom, dead, has, held}
 use Rattle.invariant.proofs.TripLaws.{dead-is, dead-same, trip-eqs, trip-kinds, trip-other, ack-other, ack-trip, acks-trips, result-other, known-job, known-plain, Places}
 
@@ -47,15 +45,6 @@ trip-snoc t x l i =
     (λ j a b c. omega (arith, count-append (resultFrom j (jobAt t j .holder)) l (x ∷ []), i .on j a b c))
     (λ j a b c. omega (arith, count-append (trip j (jobAt t j .replica)) l (x ∷ []), i .moved j a b c))
     (λ j p a b c d. omega (arith, count-append (resultFrom j p) l (x ∷ []), i .acked j p a b c (omega (arith, count-append (ackFrom j (jobAt t j .replica) p) l (x ∷ [])))))
-
-pub trip-picked : (t : Table) (l : List Message) (n : ℕ) → n < length l → Trip t l → Trip t (getD l n noMessage ∷ without n l)
-unfolding held
-trip-picked t l n h i =
-    trip-frame t t (getD l n noMessage ∷ without n l) (λ j. refl) (every-at (Known t) l n noMessage h (i .known), every-delete (Known t) l n (i .known)) (i .pools)
-    (λ j a b. omega (arith, count-delete (trip j (jobAt t j .replica)) l n noMessage h, i .moves j a b))
-    (λ j a b c. omega (arith, count-delete (resultFrom j (jobAt t j .holder)) l n noMessage h, i .on j a b c))
-    (λ j a b c. omega (arith, count-delete (trip j (jobAt t j .replica)) l n noMessage h, i .moved j a b c))
-    (λ j p a b c d. omega (arith, count-delete (resultFrom j p) l n noMessage h, i .acked j p a b c (omega (arith, count-delete (ackFrom j (jobAt t j .replica) p) l n noMessage h))))
 
 -- ---- a message that goes: where it counted for a move, one end of the move is dead
 

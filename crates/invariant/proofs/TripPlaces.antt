@@ -13,10 +13,11 @@ use Rattle.table.specs.declared.Message.{Message}
 use Rattle.table.specs.declared.Table.{Table}
 use Rattle.table.specs.Views.{jobAt, nodeAt, poolAt, toldAt, flight, withJob}
 use Rattle.table.specs.Parts.{moved, placed, priced, message}
-use Rattle.table.proofs.Views.{Sized, sized-job, job-same, job-other, node-job, pool-job, flight-job, used-job}
+use Rattle.table.proofs.Views.{job-same, job-other, node-job, pool-job, flight-job}
 use Rattle.handlers.specs.Handlers.{reply, onReq, onAck, onResult}
 use Rattle.lists.proofs.Cases.{byBool, byEq, byAnd}
 use Rattle.lists.proofs.Count.{ind, count, Every}
+use Rattle.invariant.proofs.Frame.{frame-refl, frame-job}
 use Rattle.invariant.proofs.State.{Trip, Known, Hand, trip, isTrip, ackFrom, resultFrom, dead, has, held}
 use Rattle.invariant.proofs.TripLaws.{dead-same, trip-eqs, trip-other, trip-not, ack-other, ack-not, acks-trips, result-other, result-not, has-same, known-plain, places}
 use Rattle.invariant.proofs.TripFrame.{trip-lost}
@@ -156,7 +157,7 @@ module _ (s : Table) (x : Message) (h : Hand s x) (g : Trip s (x ∷ flight s)) 
   answers c k2 tc ac rc qc ky =
       let y = message c 0 (x .from) (x .job) (x .replica) (x .thief) in
       let ey : y .kind ≡ c = unfold message in refl in
-      trip-sends s y (h .sized) (h .room) (h .facts .root) (rw (ey, qc, ac, rc) (λ e. absurd (false≢true e)))
+      trip-sends s s y (frame-refl s (h .sized)) (h .room) (h .facts .root) (rw (ey, qc, ac, rc) (λ e. absurd (false≢true e)))
       (trip-swap s s x y (flight s) 2 c k2 ey (unfold isTrip in refl) tc refl ac (places s (h .facts)) (λ j. refl) (λ k. refl) (g .pools) ky (λ j p a b o. omega arith) g)
 
   -- the job moves, and AUTH is on its way
@@ -189,7 +190,7 @@ module _ (s : Table) (x : Message) (h : Hand s x) (g : Trip s (x ∷ flight s)) 
       (λ o c. omega (arith, ap ind my))
       (λ p a o c. absurd (omega (arith, none o, acks-trips i r p l, ap ind (ack-other 3 i r p y ey refl))))
       g in
-      trip-sends u y (sized-job s i v (h .sized)) (rw used-job (h .room)) (rw node-job (h .facts .root)) (rw ey (λ e. absurd (false≢true e))) (simp flight-job t)
+      trip-sends s u y (frame-job s s (frame-refl s (h .sized)) i v) (h .room) (h .facts .root) (rw ey (λ e. absurd (false≢true e))) t
 
   pub trip-req : x .kind ≡ 2 → Trips (onReq s x)
   unfolding onReq

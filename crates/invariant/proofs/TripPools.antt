@@ -13,21 +13,19 @@ use Rattle.table.specs.declared.Table.{Table}
 use Rattle.table.specs.Views.{jobAt, nodeAt, poolAt, flight, withNode, withPool, enter}
 use Rattle.table.specs.Messages.{lowest}
 use Rattle.table.specs.Parts.{reserve, waiting, message}
-use Rattle.table.proofs.Views.{Sized, views, sized-node, sized-pool, node-pool, pool-node, alive-node, flight-node, flight-pool}
+use Rattle.table.proofs.Views.{Sized, views, pool-node, flight-node}
 use Rattle.handlers.specs.Handlers.{noWork, grant, onFish, onSchedule, onNoWork}
-use Rattle.preservation.proofs.Sizes.{sized-enter, used-enter}
+use Rattle.preservation.proofs.Sizes.{sized-enter}
 use Rattle.lists.proofs.Cases.{byBool, and-left, and-right}
 use Rattle.lists.proofs.Count.{ind}
+use Rattle.invariant.proofs.Frame.{Frame, frame-refl, frame-node, frame-pool, frame-enter, node-enter, entered}
+use Rattle.invariant.proofs.About.{alive-reserve, alive-waiting}
 use Rattle.invariant.proofs.State.{Trip, Known, Hand, trip, isTrip, ackFrom, reservesJob, has}
 use Rattle.invariant.proofs.TripLaws.{result-other, known-plain, places}
 use Rattle.invariant.proofs.TripFrame.{trip-passed, trip-step}
 use Rattle.invariant.proofs.TripSend.{trip-sends, trip-swap, trip-table}
-use Rattle.invariant.proofs.TripCopies.{has-waiting, waiting-alive, has-by-pool, has-enter, pools-enter, pools-emptied, enter-pool, has-taken, reserves-taken}
+use Rattle.invariant.proofs.TripCopies.{has-waiting, has-by-pool, has-enter, pools-enter, pools-emptied, enter-pool, has-taken, reserves-taken}
 use Rattle.invariant.proofs.TripAnswers.{Trips}
-
-reserve-alive : (n : Machine) (j r th : ℕ) → reserve n j r th .alive ≡ n .alive
-unfolding reserve
-reserve-alive n j r th = refl
 
 reserves-none : (n : Machine) (j r : ℕ) → n .«reserved_replica» ≡ 0 → reservesJob n j r ≡ false
 unfolding reservesJob
@@ -61,12 +59,10 @@ module _ (s : Table) (x : Message) (h : Hand s x) (g : Trip s (x ∷ flight s)) 
       let u = withNode q b v in
       let y = message 2 b 0 i r₀ (x .from) in
       let w = h .message in
-      let qz : Sized q = sized-pool s b i 0 (h .sized) in
-      let va : v .alive ≡ n .alive = reserve-alive n i r₀ (x .from) in
-      let al : (k : ℕ) → nodeAt u k .alive ≡ nodeAt s k .alive = λ k.
-      alive-node q b v qz (w .to) (va ∙ ap (λ (m : Machine). m .alive) (sym (node-pool s b i 0 b))) k ∙ ap (λ (m : Machine). m .alive) (node-pool s b i 0 k) in
+      let va : v .alive ≡ n .alive = alive-reserve n i r₀ (x .from) in
+      let f : Frame s u = frame-node s q (frame-pool s s (frame-refl s (h .sized)) b i 0) b v (w .to) va in
       let t : Trip u (y ∷ flight s) =
-      trip-swap s u x y (flight s) 1 2 k1 (unfold message in refl) (unfold isTrip in refl) (unfold isTrip in refl) refl refl (places s (h .facts)) (λ j. simp views) al
+      trip-swap s u x y (flight s) 1 2 k1 (unfold message in refl) (unfold isTrip in refl) (unfold isTrip in refl) refl refl (places s (h .facts)) (λ j. simp views) (f .alive)
       (λ m j a c. rw pool-node (pools-emptied s b i (h .sized) (w .to) il (g .pools) m j a c))
       (known-plain s y 2 (unfold message in refl) (unfold isTrip in refl) refl (unfold message in g .pools b i (w .to) il))
       (λ j p a c o.
@@ -74,13 +70,13 @@ module _ (s : Table) (x : Message) (h : Hand s x) (g : Trip s (x ∷ flight s)) 
       let r1 : 1 ≤ r = h .facts .job j a .some (λ e. omega arith) in
       omega (arith, has-taken s b i v j r p (h .sized) (w .to) il a r1 va (reserves-taken n i r₀ (x .from) j r r1 (reserves-none n j r free))))
       g in
-      trip-sends u y (sized-node q b v qz) (simp views (h .room)) (al 0 ∙ h .facts .root) (unfold message in λ e. refl) (simp (flight-node, flight-pool) t)
+      trip-sends s u y f (h .room) (h .facts .root) (unfold message in λ e. refl) t
 
   fish-none : x .kind ≡ 1 → Trips (noWork s (x .to) (x .from))
   unfolding noWork
   fish-none k1 =
       let y = message 8 (x .to) (x .from) 0 0 0 in
-      trip-sends s y (h .sized) (h .room) (h .facts .root) (unfold message in λ e. absurd (false≢true e))
+      trip-sends s s y (frame-refl s (h .sized)) (h .room) (h .facts .root) (unfold message in λ e. absurd (false≢true e))
       (trip-swap s s x y (flight s) 1 8 k1 (unfold message in refl) (unfold isTrip in refl) (unfold isTrip in refl) refl refl (places s (h .facts)) (λ j. refl) (λ k. refl) (g .pools)
       (known-plain s y 8 (unfold message in refl) (unfold isTrip in refl) refl (unfold message in omega arith)) (λ j p a c o. omega arith) g)
 
@@ -105,20 +101,17 @@ module _ (s : Table) (x : Message) (h : Hand s x) (g : Trip s (x ∷ flight s)) 
       let w = h .message in
       let k = g .known .0 in
       let qz : Sized q = sized-enter s b (x .job) (x .replica) (h .sized) in
-      let qn : (k : ℕ) → nodeAt q k ≡ nodeAt s k = unfold enter in λ k. node-pool s b (x .job) _ k in
-      let fl : flight u ≡ flight s = flight-node q b (waiting n 0) ∙ unfold enter in flight-pool s b (x .job) _ in
-      let al : (k : ℕ) → nodeAt u k .alive ≡ nodeAt s k .alive = λ k.
-      alive-node q b (waiting n 0) qz (w .to) (waiting-alive n 0 ∙ ap (λ (m : Machine). m .alive) (sym (qn b))) k ∙ ap (λ (m : Machine). m .alive) (qn k) in
+      let f : Frame s u = frame-node s q (frame-enter s s (frame-refl s (h .sized)) b (x .job) (x .replica)) b (waiting n 0) (w .to) (alive-waiting n 0) in
       let tx : (j r : ℕ) → trip j r x ≡ eqb (x .job) j && eqb (x .replica) r = λ j r. unfold trip isTrip in rw k6 in
       let ty : (j r : ℕ) → trip j r y ≡ eqb (x .job) j && eqb (x .replica) r = λ j r. unfold trip isTrip message in refl in
       let t : Trip u (y ∷ flight s) =
-      trip-step s u x y (flight s) (places s (h .facts)) (λ j. unfold enter in simp views) al
+      trip-step s u x y (flight s) (places s (h .facts)) (λ j. simp (views, entered)) (f .alive)
       (λ m j a c. rw pool-node (pools-enter s b (x .job) (x .replica) (h .sized) (w .to) (w .job) (k .cap) (g .pools) m j a c))
       (known-ack s x k6 k)
       (λ j a c. ty j (jobAt s j .replica) ∙ sym (tx j (jobAt s j .replica)))
       (λ j p a c o e.
       let r = jobAt s j .replica in
-      omega (arith, has-enter s b (x .job) (x .replica) j r p (h .sized) (w .to) (w .job) a (λ f. rw f (k .cap)), has-waiting q b p j r 0 n qz (w .to) (qn b), ap ind (result-other 6 j p x k6 refl)))
+      omega (arith, has-enter s b (x .job) (x .replica) j r p (h .sized) (w .to) (w .job) a (λ f. rw f (k .cap)), has-waiting q b p j r 0 n qz (w .to) (node-enter s b (x .job) (x .replica) b), ap ind (result-other 6 j p x k6 refl)))
       (λ j p a c o e.
       let r = jobAt s j .replica in
       let es = ack-eqs j r p b (x .job) (x .replica) e in
@@ -126,7 +119,7 @@ module _ (s : Table) (x : Message) (h : Hand s x) (g : Trip s (x ∷ flight s)) 
       let pu : poolAt u p j ≡ r = pool-node q b (waiting n 0) p j ∙ ap (λ (m : ℕ). poolAt q m j) (sym (es .0)) ∙ ap (poolAt q b) (sym (es .1)) ∙ enter-pool s b (x .job) (x .replica) (h .sized) (w .to) (w .job) po ∙ es .2 in
       has-by-pool u j r p pu)
       g in
-      trip-sends u y (sized-node q b (waiting n 0) qz) (simp (views, used-enter) (h .room)) (al 0 ∙ h .facts .root) (unfold message in λ e. refl) (rw fl t)
+      trip-sends s u y f (h .room) (h .facts .root) (unfold message in λ e. refl) t
 
   -- ---- NOWORK
   pub trip-nowork : x .kind ≡ 8 → Trips (onNoWork s x)
@@ -135,8 +128,8 @@ module _ (s : Table) (x : Message) (h : Hand s x) (g : Trip s (x ∷ flight s)) 
       let b = x .to in
       let n = nodeAt s b in
       let u = withNode s b (waiting n 0) in
-      let al : (k : ℕ) → nodeAt u k .alive ≡ nodeAt s k .alive = alive-node s b (waiting n 0) (h .sized) (h .message .to) (waiting-alive n 0) in
+      let f : Frame s u = frame-node s s (frame-refl s (h .sized)) b (waiting n 0) (h .message .to) (alive-waiting n 0) in
       simp flight-node
-      (trip-table s u (flight s) (places s (h .facts)) (λ j. simp views) al (λ m j a c. rw pool-node (g .pools m j a c))
+      (trip-table s u (flight s) (places s (h .facts)) (λ j. simp views) (f .alive) (λ m j a c. rw pool-node (g .pools m j a c))
       (λ j p a c o. omega (arith, has-waiting s b p j (jobAt s j .replica) 0 n (h .sized) (h .message .to) refl))
       (trip-passed s x (flight s) 8 k8 (unfold isTrip in refl) refl g))

@@ -7,16 +7,16 @@ use mathlib.Core.List.{List, [], _∷_, _++_}
 use Prim.Native.Nat.{ℕ, _+_, _≤_, _<_, min}
 use native.Mathlib.Omega.{arith}
 use lib.Dec.{eqb}
-use borrow.Author.Tests.{eqb-false}
 use Rattle.table.specs.declared.Message.{Message}
 use Rattle.table.specs.declared.Table.{Table}
-use Rattle.table.specs.Views.{noMessage, jobAt, nodeAt, poolAt, flight}
-use Rattle.table.specs.Messages.{push, send}
+use Rattle.table.specs.Views.{noMessage, jobAt, nodeAt, poolAt, messageAt, flight, withMessages}
+use Rattle.table.specs.Messages.{pull, send}
 use Rattle.table.proofs.Views.{Sized, views}
-use Rattle.table.proofs.Messages.{flight-push}
 use Rattle.elements.specs.Elements.{toRoot}
-use Rattle.lists.proofs.Cases.{byBool}
+use Rattle.lists.specs.Scan.{without}
 use Rattle.lists.proofs.Count.{ind, count}
+use Rattle.invariant.proofs.Flight.{sends, takes, count-taken, every-taken}
+use Rattle.invariant.proofs.Frame.{Frame}
 use Rattle.invariant.proofs.State.{Trip, Known, trip, isTrip, ackFrom, resultFrom, dead, has, held}
 use Rattle.invariant.proofs.TripLaws.{trip-other, ack-other, result-other, known-plain, Places}
 use Rattle.invariant.proofs.TripFrame.{trip-frame, trip-snoc, trip-dropped, trip-passed, trip-nothing, trip-step}
@@ -28,20 +28,32 @@ pub trip-same : (t u : Table) → ((j : ℕ) → jobAt u j ≡ jobAt t j) → ((
 unfolding held has dead
 trip-same t u jb nd pl l i = trip-frame t u l jb (i .known) (simp pl (i .pools)) (i .moves) (simp (nd, pl) (i .on)) (simp nd (i .moved)) (simp (nd, pl) (i .acked))
 
--- ---- the message in hand is sent
+trip-apart : (t : Table) (n : ℕ) (k l : List Message) → Trip t l → Trip (withMessages t n k) l
+trip-apart t n k l i = trip-same t (withMessages t n k) (λ j. simp views) (λ m. simp views) (λ m j. simp views) l i
 
-pub trip-sends : (t : Table) (x : Message) → Sized t → t .«in_flight» < 128 → nodeAt t 0 .alive ≡ 1 → (toRoot (x .kind) ≡ true → x .to ≡ 0)
-    → Trip t (x ∷ flight t) → Trip (send t x) (flight (send t x))
-unfolding send push
-trip-sends t x z room root home i =
-    byBool (eqb (nodeAt t (x .to) .alive) 1)
-    (λ e.
-    let s : Trip (push t x) (flight t ++ x ∷ []) = trip-same t (push t x) (λ j. simp views) (λ k. simp views) (λ m j. simp views) (flight t ++ x ∷ []) (trip-snoc t x (flight t) i) in
-    rw (e, send) (rw (flight-push t z x room) s))
-    (λ e.
-    let gone : nodeAt t (x .to) .alive ≡ 1 → ⊥ = eqb-false _ _ e in
-    let away : toRoot (x .kind) ≡ true → ⊥ = λ r. gone (rw (home r) root) in
-    rw (e, send) (trip-dropped t x (flight t) gone (λ f. away (rw f)) (λ f. away (rw f)) i))
+-- ---- the message in hand is sent, after updates that leave the messages in flight as they were
+
+pub trip-sends : (s u : Table) (y : Message) → Frame s u → s .«in_flight» < 128 → nodeAt s 0 .alive ≡ 1 → (toRoot (y .kind) ≡ true → y .to ≡ 0)
+    → Trip u (y ∷ flight s) → Trip (send u y) (flight (send u y))
+trip-sends s u y f room root home i =
+    sends Trip trip-apart u y (f .sized) (rw (f .used) room) (trip-snoc u y (flight u))
+    (λ gone t.
+    let away : toRoot (y .kind) ≡ true → ⊥ = λ r. gone (rw (home r) (f .alive 0 ∙ root)) in
+    trip-dropped u y (flight u) gone (λ e. away (rw e)) (λ e. away (rw e)) t)
+    (rw (f .flight) i)
+
+-- ---- the message in slot k is taken off
+
+pub trip-takes : (t : Table) (k : ℕ) → Sized t → k < t .«in_flight» → Trip t (flight t) → Trip (pull t k) (messageAt t k ∷ flight (pull t k))
+unfolding held
+trip-takes t k z h i =
+    let n = count-taken t k z h in
+    takes t k z h Trip trip-apart
+    (trip-frame t t (messageAt t k ∷ without k (flight t)) (λ j. refl) (every-taken t k z h (Known t) (i .known)) (i .pools)
+    (λ j a b. omega (arith, n (trip j (jobAt t j .replica)), i .moves j a b))
+    (λ j a b c. omega (arith, n (resultFrom j (jobAt t j .holder)), i .on j a b c))
+    (λ j a b c. omega (arith, n (trip j (jobAt t j .replica)), i .moved j a b c))
+    (λ j p a b c d. omega (arith, n (resultFrom j p), i .acked j p a b c (omega (arith, n (ackFrom j (jobAt t j .replica) p))))))
 
 -- ---- a message takes the place of another, and neither counts for a move
 
