@@ -14,6 +14,7 @@ pub mod ConservedDeliver
 pub mod ConservedEvents
 pub mod ConservedDie
 pub mod ConservedNotice
+pub mod ByKind
 pub mod TripLaws
 pub mod TripFrame
 pub mod TripCopies
@@ -22,3 +23,8 @@ pub mod TripAnswers
 pub mod TripPools
 pub mod TripJob
 pub mod TripPlaces
+pub mod TripDeliver
+pub mod TripDie
+pub mod TripWithout
+pub mod TripNotice
+pub mod TripEvents

@@ -20,7 +20,7 @@ use Rattle.lists.proofs.Cases.{byBool, byEq, and-left, and-right}
 use Rattle.lists.proofs.Count.{ind, count}
 use Rattle.invariant.proofs.Frame.{Frame, frame-refl, frame-node, frame-returned, entered}
 use Rattle.invariant.proofs.About.{about-answer, copy-eqs, alive-release}
-use Rattle.invariant.proofs.State.{Trip, Known, Ends, Side, Conserved, Hand, isAnswer, about, trip, isTrip, ackFrom, resultFrom, reservesJob, has, dead}
+use Rattle.invariant.proofs.State.{Trip, Known, Ends, Conserved, Hand, isAnswer, about, trip, isTrip, ackFrom, resultFrom, reservesJob, has, dead}
 use Rattle.invariant.proofs.TripLaws.{dead-is, trip-eqs, trip-kinds, ack-other, result-other, known-plain, known-job, places}
 use Rattle.invariant.proofs.TripFrame.{trip-lost, trip-passed, trip-step}
 use Rattle.invariant.proofs.TripSend.{trip-sends, trip-swap}
@@ -53,7 +53,8 @@ about-own x ans nr =
     about-answer (x .to) (x .thief) (x .job) (x .replica) x nr ans
     ∙ rw (eq-eqb (x .to) (x .to) refl, eq-eqb (x .job) (x .job) refl, eq-eqb (x .replica) (x .replica) refl, eq-eqb (x .thief) (x .thief) refl)
 
-module _ (s : Table) (x : Message) (h : Hand s x) (c : Conserved s (x ∷ flight s)) (d : Side s (x ∷ flight s)) (g : Trip s (x ∷ flight s)) where
+module _ (s : Table) (x : Message) (h : Hand s x) (c : Conserved s (x ∷ flight s))
+    (cap : (m : ℕ) → m < 16 → nodeAt s m .«reserved_replica» ≤ jobAt s (nodeAt s m .«reserved_job») .replica) (g : Trip s (x ∷ flight s)) where
   abbrev Matches : Bool → Type 0
   Matches v = reserves (nodeAt s (x .to)) (x .job) (x .replica) (x .thief) ≡ v
 
@@ -109,7 +110,7 @@ module _ (s : Table) (x : Message) (h : Hand s x) (c : Conserved s (x ∷ flight
       let y = message 8 b (x .thief) 0 0 0 in
       let f : Frame s u = frame-returned s b (h .sized) (h .message .to) in
       let hj : nodeAt s b .«reserved_job» < 64 = h .facts .machine b (h .message .to) .reserved-job in
-      let hr = d .copies b (h .message .to) .reserved in
+      let hr = cap b (h .message .to) in
       let t : Trip u (y ∷ flight s) =
       trip-swap s u x y (flight s) 4 8 k4 (unfold message in refl) (unfold isTrip in refl) (unfold isTrip in refl) refl refl (places s (h .facts)) (λ j. unfold returned in simp (views, entered)) (f .alive)
       (pools-returned s b (h .sized) (h .message .to) hj hr (g .pools))
