@@ -1,7 +1,7 @@
 pub mod State
 pub mod Flight
 pub mod Frame
-pub mod Lowest
+pub mod Hand
 pub mod Died
 pub mod Quieted
 pub mod Reissued
