@@ -18,3 +18,4 @@ pub mod SideFrame
 pub mod SideHandle
 pub mod SideEvents
 pub mod SideNotice
+pub mod Fixed
