@@ -15,8 +15,8 @@ use Rattle.table.specs.Messages.{pull}
 use Rattle.handlers.specs.Handlers.{handle}
 use Rattle.events.specs.Events.{delivered}
 use Rattle.invariant.proofs.State.{Conserved, Hand, Whole, isAnswer}
-use Rattle.invariant.proofs.About.{plain}
-use Rattle.invariant.proofs.ConservedFrame.{conserved-forget, conserved-takes}
+use Rattle.invariant.proofs.Hand.{hand}
+use Rattle.invariant.proofs.ConservedFrame.{conserved-takes}
 use Rattle.invariant.proofs.ConservedFish.{conserved-fish}
 use Rattle.invariant.proofs.ConservedAnswers.{conserved-auth, conserved-denied, conserved-obsolete}
 use Rattle.invariant.proofs.ConservedOthers.{conserved-req, conserved-schedule, conserved-ack, conserved-nowork, conserved-result}
@@ -47,6 +47,6 @@ module _ (s : Table) (x : Message) (h : Hand s x) (c : Conserved s (x ∷ flight
       other a1 a2 a3 a4 a5 a6 a7 a8 a9 =
           omega (arith, h .message .kind-most, up 9 (up 8 (up 7 (up 6 (up 5 (up 4 (up 3 (up 2 (up 1 (h .message .kind-least) a1) a2) a3) a4) a5) a6) a7) a8) a9)
 
-pub conserved-delivered : (t : Table) (k : ℕ) → Whole t → k < t .«in_flight» → Hand (pull t k) (messageAt t k) → Conserved (delivered t k) (flight (delivered t k))
+pub conserved-delivered : (t : Table) (k : ℕ) → Whole t → k < t .«in_flight» → Conserved (delivered t k) (flight (delivered t k))
 unfolding delivered
-conserved-delivered t k w l h = conserved-handle (pull t k) (messageAt t k) h (conserved-takes t k (w .sized) l (w .conserved))
+conserved-delivered t k w l = conserved-handle (pull t k) (messageAt t k) (hand t k w l) (conserved-takes t k (w .sized) l (w .conserved))

@@ -18,7 +18,7 @@ use Rattle.table.specs.Messages.{send, lowest}
 use Rattle.table.specs.Parts.{copyIs, reserves, reserve, message, REQ, FISH, NOWORK}
 use Rattle.table.proofs.Views.{Sized, node-same, node-other, node-pool, sized-pool}
 use Rattle.handlers.specs.Handlers.{noWork, grant, onFish}
-use Rattle.invariant.proofs.Lowest.{lowest-in}
+use Rattle.preservation.proofs.Facts.{lowest-in}
 use Rattle.invariant.proofs.State.{Conserved, Hand, isAnswer, about}
 use Rattle.invariant.proofs.Frame.{Frame, frame-refl, frame-pool, frame-node}
 use Rattle.invariant.proofs.About.{plain, about-plain, about-req, reserves-none, reserves-reserve, alive-reserve}

@@ -6,18 +6,14 @@ use mathlib.Core.List.{List}
 use Prim.Native.Nat.{ℕ, _<_}
 use Rattle.lists.specs.Scan.{keep}
 use Rattle.table.specs.declared.Table.{Table}
-use Rattle.table.specs.Views.{noMachine, bondAt, jobAt, nodeAt, poolAt, toldAt, flight, withNode, withMessages}
+use Rattle.table.specs.Views.{noMachine, jobAt, nodeAt, poolAt, toldAt, flight, withNode, withMessages}
 use Rattle.table.specs.Messages.{sift, notTo, wipe}
 use Rattle.table.proofs.Views.{Sized, views, node-same, node-other, node-messages}
 use Rattle.table.proofs.Messages.{flight-sift}
-use Rattle.table.proofs.Wipe.{sized-wipe, bond-wipe, job-wipe, node-wipe, told-wipe, flight-wipe, pool-wipe-own, pool-wipe-other}
+use Rattle.table.proofs.Wipe.{sized-wipe, job-wipe, node-wipe, told-wipe, flight-wipe, pool-wipe-own, pool-wipe-other}
 use Rattle.events.specs.Events.{died}
 
 module _ (t : Table) (a : ℕ) where
-  pub bond-died : (j : ℕ) → bondAt (died t a) j ≡ bondAt t j
-  unfolding died sift
-  bond-died j = simp (views, bond-wipe)
-
   pub job-died : (j : ℕ) → jobAt (died t a) j ≡ jobAt t j
   unfolding died sift
   job-died j = simp (views, job-wipe)

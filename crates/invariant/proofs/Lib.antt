@@ -1,7 +1,7 @@
 pub mod State
 pub mod Flight
 pub mod Frame
-pub mod Lowest
+pub mod Hand
 pub mod Died
 pub mod Quieted
 pub mod Reissued
@@ -14,6 +14,11 @@ pub mod ConservedDeliver
 pub mod ConservedEvents
 pub mod ConservedDie
 pub mod ConservedNotice
+pub mod SideFrame
+pub mod SideHandle
+pub mod SideEvents
+pub mod SideNotice
+pub mod Fixed
 pub mod ByKind
 pub mod TripLaws
 pub mod TripFrame
@@ -24,7 +29,7 @@ pub mod TripPools
 pub mod TripJob
 pub mod TripPlaces
 pub mod TripDeliver
-pub mod TripDie
 pub mod TripWithout
+pub mod TripDie
 pub mod TripNotice
 pub mod TripEvents

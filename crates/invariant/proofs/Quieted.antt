@@ -10,7 +10,7 @@ use Rattle.lists.specs.Scan.{keep}
 use Rattle.lists.proofs.Cases.{byBool}
 use Rattle.table.specs.declared.Machine.{Machine}
 use Rattle.table.specs.declared.Table.{Table}
-use Rattle.table.specs.Views.{bondAt, jobAt, nodeAt, poolAt, toldAt, flight, withNode, withTold, withMessages, enter}
+use Rattle.table.specs.Views.{jobAt, nodeAt, poolAt, toldAt, flight, withNode, withTold, withMessages, enter}
 use Rattle.table.specs.Messages.{sift, notFrom}
 use Rattle.table.specs.Parts.{release, waiting, returned}
 use Rattle.table.proofs.Views.{Sized, views, node-same, node-other, told-same, told-other, told-other-node, told-messages, flight-told}
@@ -64,10 +64,6 @@ module _ (t : Table) (a b : ℕ) where
   same-quieted f p q =
       same-unwaited (reclaimed (informed t a b) a b) a b f (q (reclaimed (informed t a b) a b) _)
       ∙ same-reclaimed (informed t a b) a b f (p (informed t a b))
-
-  pub bond-quieted : (j : ℕ) → bondAt (quieted t a b) j ≡ bondAt t j
-  unfolding informed sift returned enter
-  bond-quieted j = same-quieted (λ u. bondAt u j) (λ u. simp views) (λ u v. simp views) ∙ simp views
 
   pub job-quieted : (j : ℕ) → jobAt (quieted t a b) j ≡ jobAt t j
   unfolding informed sift returned enter

@@ -11,7 +11,7 @@ use Rattle.lists.specs.Scan.{upTo}
 use Rattle.lists.proofs.Cases.{byBool, byEq}
 use Rattle.table.specs.declared.Job.{Job}
 use Rattle.table.specs.declared.Table.{Table}
-use Rattle.table.specs.Views.{bondAt, jobAt, nodeAt, poolAt, toldAt, flight, withJob, enter}
+use Rattle.table.specs.Views.{jobAt, nodeAt, poolAt, toldAt, flight, withJob, enter}
 use Rattle.table.specs.Parts.{opened}
 use Rattle.table.proofs.Views.{Sized, views, job-same, job-other, job-pool}
 use Rattle.events.specs.Notice.{lost, reissueOne, reissue}
@@ -49,10 +49,6 @@ module _ (t : Table) (b : ℕ) where
   unfolding upTo
   same f h zero = refl
   same f h (suc n) = one f (jobAt t n) b n (turns n) (h (turns n) _ n _) ∙ same f h n
-
-  pub bond-reissue : (j : ℕ) → bondAt (reissue t b) j ≡ bondAt t j
-  unfolding reissue enter
-  bond-reissue j = same (λ u. bondAt u j) (λ u v i r. simp views) 64
 
   pub node-reissue : (m : ℕ) → nodeAt (reissue t b) m ≡ nodeAt t m
   unfolding reissue enter

@@ -16,6 +16,7 @@ use Rattle.table.specs.Views.{jobAt, nodeAt, poolAt, toldAt, flight}
 use Rattle.table.specs.Parts.{copyIs, reserves, REQ, AUTH, DENIED, OBSOLETE, SCHEDULE, ACK, RESULT}
 use Rattle.table.proofs.Views.{Sized}
 use Rattle.lists.proofs.Count.{ind, count, Every}
+use Rattle.preservation.proofs.Ok.{Ok}
 use Rattle.preservation.proofs.Facts.{Facts, MessageFacts}
 
 -- ---- the messages that the clauses count
@@ -137,6 +138,8 @@ pub record Side (t : Table) (l : List Message) : Type 0 where
 -- the whole invariant of a table between two events
 pub record Whole (t : Table) : Type 0 where
   pub sized : Sized t
+  -- W: the table passes check 9, and what that says in plain numbers
+  pub ok : Ok t
   pub facts : Facts t
   pub conserved : Conserved t (flight t)
   pub trip : Trip t (flight t)

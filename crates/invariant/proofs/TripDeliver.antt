@@ -10,6 +10,7 @@ use Rattle.table.proofs.Views.{views}
 use Rattle.handlers.specs.Handlers.{handle}
 use Rattle.events.specs.Events.{delivered}
 use Rattle.invariant.proofs.State.{Trip, Conserved, Hand, Whole}
+use Rattle.invariant.proofs.Hand.{hand}
 use Rattle.invariant.proofs.ByKind.{by-kind}
 use Rattle.invariant.proofs.ConservedFrame.{conserved-takes}
 use Rattle.invariant.proofs.TripSend.{trip-takes}
@@ -24,7 +25,7 @@ module _ (s : Table) (x : Message) (h : Hand s x) (c : Conserved s (x ∷ flight
       by-kind Trips s x (h .message .kind-least) (h .message .kind-most) (trip-fish s x h g) (trip-req s x h g) (trip-auth s x h c cap g) (trip-denied s x h c cap g) (trip-obsolete s x h c cap g)
       (trip-schedule s x h g) (trip-ack s x h g) (trip-nowork s x h g) (trip-result s x h g)
 
-pub trip-delivered : (t : Table) (k : ℕ) → Whole t → k < t .«in_flight» → Hand (pull t k) (messageAt t k) → Trips (delivered t k)
+pub trip-delivered : (t : Table) (k : ℕ) → Whole t → k < t .«in_flight» → Trips (delivered t k)
 unfolding delivered pull
-trip-delivered t k w l h =
-    trip-handle (pull t k) (messageAt t k) h (conserved-takes t k (w .sized) l (w .conserved)) (λ m ml. simp views (w .side .copies m ml .reserved)) (trip-takes t k (w .sized) l (w .trip))
+trip-delivered t k w l =
+    trip-handle (pull t k) (messageAt t k) (hand t k w l) (conserved-takes t k (w .sized) l (w .conserved)) (λ m ml. simp views (w .side .copies m ml .reserved)) (trip-takes t k (w .sized) l (w .trip))
