@@ -4,3 +4,5 @@ pub mod Updates
 pub mod Told
 pub mod Passed
 pub mod Sizes
+pub mod Handled
+pub mod Accepted
