@@ -6,3 +6,5 @@ pub mod Passed
 pub mod Sizes
 pub mod Handled
 pub mod Accepted
+pub mod Died
+pub mod Noticed
