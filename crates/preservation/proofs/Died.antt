@@ -3,8 +3,8 @@
 use Prim.Native.Nat.{ℕ, _≤_, _<_}
 use mathlib.Core.Path.{_≡_, sym, ap, _∙_}
 use mathlib.Core.Logic.{_≢_}
-use mathlib.Core.Bool.{true, not, _&&_, false≢true}
-use borrow.Author.Tests.{le-leb, eq-eqb}
+use mathlib.Core.Bool.{true, _&&_}
+use borrow.Author.Tests.{le-leb, eqb-false, not-true}
 use lib.Dec.{eqb, leb, ltb}
 use Rattle.lists.specs.Scan.{keep}
 use Rattle.lists.proofs.Cases.{byBool, byEq, and-left}
@@ -90,7 +90,7 @@ module _ (t : Table) (s : Sized t) (o : Ok t) (a : ℕ) (h : a < 16) (nz : a ≢
       rw (machines-died t a, entries-died t a, le-leb (died t a .«in_flight») 128 (sized-died t s a .used), and-left (p && q && c) (leb (t .«in_flight») 128) (o .sizes))
 
   far : (x : Message) → notTo a x ≡ true → x .to ≢ a
-  far x e d = false≢true (sym (ap not (eq-eqb _ _ d)) ∙ e)
+  far x e = eqb-false (x .to) a (not-true _ e)
 
   pub ok-died : Ok (died t a)
   ok-died = record {

@@ -1,11 +1,11 @@
 -- Check 9 through the nine handlers: the laws of proofs/Updates.antt in the order of each definition.
 -- Assumes nothing.
 use Prim.Native.Nat.{ℕ, _-_, _≤_, _<_, max}
-use mathlib.Core.Path.{_≡_, refl, sym, ap, _∙_}
+use mathlib.Core.Path.{_≡_, refl, sym}
 use mathlib.Core.Logic.{_≢_}
 use mathlib.Core.Bool.{Bool, true, false, not, _&&_, _||_, false≢true}
 use native.Mathlib.Omega.{arith}
-use borrow.Author.Tests.{eqb-true, eqb-false, leb-false, lt-ltb, eq-eqb}
+use borrow.Author.Tests.{eqb-true, eqb-false, leb-false, lt-ltb, not-true, not-false}
 use lib.Dec.{eqb, leb, ltb}
 use Rattle.lists.proofs.Cases.{byBool, and-left, and-right}
 use Rattle.table.specs.declared.Table.{Table}
@@ -81,10 +81,9 @@ module _ (t : Table) (s : Sized t) (o : Ok t) where
 -- a machine that reserves this copy has one
 pub reserves-some : (n : Machine) (j r th : ℕ) → reserves n j r th ≡ true → n .«reserved_replica» ≢ 0
 unfolding reserves
-reserves-some n j r th e z =
-    let d = not (eqb (n .«reserved_replica») 0) in
-    let f : d ≡ true = and-left d (copyIs (n .«reserved_job») (n .«reserved_replica») (n .«reserved_thief») j r th) e in
-    false≢true (sym (ap not (eq-eqb _ _ z)) ∙ f)
+reserves-some n j r th e =
+    eqb-false (n .«reserved_replica») 0
+    (not-true _ (and-left (not (eqb (n .«reserved_replica») 0)) (copyIs (n .«reserved_job») (n .«reserved_replica») (n .«reserved_thief») j r th) e))
 
 -- ---- a message in hand, its receiver alive, and a slot free
 
@@ -228,9 +227,10 @@ module _ (t : Table) (x : Message) (s : Sized t) (o : Ok t) (l : t .«in_flight�
 
 -- ---- REQ
 
+-- neither test passes: the replica is current
 current : (a : Bool) (p q : ℕ) → a || not (eqb p q) ≡ false → p ≡ q
 current true p q e = absurd (false≢true (sym e))
-current false p q e = byBool (eqb p q) (eqb-true p q) (λ f. absurd (false≢true (sym (sym (ap not f) ∙ e))))
+current false p q e = eqb-true p q (not-false _ e)
 
 module _ (t : Table) (x : Message) (s : Sized t) (o : Ok t) (l : t .«in_flight» < 128) where
   ok-reply : (n : ℕ) → messageOk (t .machines) (t .entries) (bound t) (message n 0 (x .from) (x .job) (x .replica) (x .thief)) ≡ true → Ok (reply t x n)

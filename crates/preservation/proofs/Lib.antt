@@ -8,3 +8,4 @@ pub mod Handled
 pub mod Accepted
 pub mod Died
 pub mod Noticed
+pub mod Answers

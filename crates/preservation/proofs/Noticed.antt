@@ -1,21 +1,19 @@
 -- Check 9 through Notice: what every machine does, then the root's jobs, whose replica numbers were at most the bound before it rose by one.
 -- Assumes nothing.
-use Prim.Native.Nat.{ℕ, zero, suc, _+_, _≤_, _<_, max}
+use Prim.Native.Nat.{ℕ, zero, suc, _+_, _≤_, _<_}
 use mathlib.Core.Path.{_≡_, refl, sym, ap, _∙_, subst}
-use mathlib.Core.Logic.{_≢_}
-use mathlib.Core.Bool.{Bool, true, false, not, _&&_, _||_, false≢true}
+use mathlib.Core.Bool.{true, not, _&&_, _||_}
 use native.Mathlib.Omega.{arith}
-use borrow.Author.Tests.{eqb-true, eqb-false, eq-eqb}
+use borrow.Author.Tests.{eqb-true, eqb-false, not-true}
 use lib.Dec.{eqb}
 use Rattle.lists.specs.Scan.{upTo}
 use Rattle.lists.proofs.Cases.{byBool, and-left}
 use Rattle.table.specs.declared.Table.{Table}
 use Rattle.table.specs.declared.Job.{Job}
 use Rattle.table.specs.declared.Machine.{Machine}
-use Rattle.table.specs.declared.Message.{Message}
-use Rattle.table.specs.Views.{jobAt, nodeAt, poolAt, toldAt, withJob, withNode, withTold, enter}
+use Rattle.table.specs.Views.{jobAt, nodeAt, toldAt, enter}
 use Rattle.table.specs.Messages.{sift, notFrom}
-use Rattle.table.specs.Parts.{opened, release, returned, waiting}
+use Rattle.table.specs.Parts.{release, returned, waiting}
 use Rattle.table.proofs.Views.{Sized, views, alive-node}
 use Rattle.table.proofs.Messages.{sized-sift}
 use Rattle.elements.specs.Elements.{copyOk}
@@ -96,7 +94,7 @@ module _ (t : Table) (s : Sized t) (o : Ok t) where
       let c = not (eqb q 0) in
       let d = eqb (nodeAt t a .«reserved_thief») b in
       byBool (c && d)
-      (λ e. rw (e, reclaimed) (ok-returned t s o a h al (λ z. false≢true (sym (ap not (eq-eqb q 0 z)) ∙ and-left c d e))))
+      (λ e. rw (e, reclaimed) (ok-returned t s o a h al (eqb-false q 0 (not-true _ (and-left c d e)))))
       (λ e. rw (e, reclaimed) o)
 
 module _ (t : Table) (s : Sized t) (a b : ℕ) where
