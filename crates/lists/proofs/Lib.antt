@@ -1,4 +1,5 @@
 pub mod Rules
+pub mod Cases
 pub mod Scans
 pub mod Keeps
 pub mod Count

@@ -1,0 +1,37 @@
+-- `pricer::price` meets its contract: in each case what the callee ensures is the definition at the terms of that case. Assumes nothing.
+use mathlib.Core.Path.{sym, ap, _∙_}
+use Rattle.pricer.specs.Price.{priceBy, priceOf}
+use borrow.Author.Needs.{needs}
+use Rattle.pricer.proofs.price.Statement.{statement}
+use Rattle.pricer.proofs.price.Tie as tie
+
+enum-known-t : tie.Need-enum-known-t
+enum-known-t c = search needs
+
+price-zero-requires : tie.Need-price-zero-requires
+price-zero-requires c κs = search needs
+
+enum-known-t-2 : tie.Need-enum-known-t-2
+enum-known-t-2 c = search needs
+
+price-fixed-requires : tie.Need-price-fixed-requires
+price-fixed-requires c κs = search needs
+
+returns : tie.Need-returns
+unfolding priceOf
+returns c = cc
+
+returns-2 : tie.Need-returns-2
+unfolding priceOf
+returns-2 c = c .price-fixed .ensures ∙ sym (ap (priceBy (c .before .before .before .before .args .b .periods)) (c .before .before .t2 .given .1))
+
+pub price-spec : {M : Type 1} → statement M
+price-spec =
+    tie.close
+    (tie.spec
+    enum-known-t
+    price-zero-requires
+    enum-known-t-2
+    price-fixed-requires
+    returns
+    returns-2)

@@ -1,0 +1,42 @@
+-- The ranges of a bond's terms, document 01, "The book". Definitions only.
+use Prim.Native.Nat.{ℕ}
+use mathlib.Core.Bool.{Bool, false, _&&_}
+use lib.IntN.{pos}
+use lib.Dec.{leb}
+use lib.Ieee.{Float, fin, le}
+use Rattle.pricer.specs.Price.{one, hundred}
+use Rattle.pricer.specs.declared.Terms.{Terms}
+use Rattle.pricer.specs.declared.Terms.the-variants.{Zero, Fixed}
+use Rattle.pricer.specs.declared.Bond.{Bond}
+
+-- "ends included; a NaN is outside. Negative zero is inside": `le` is IEEE 754's, false at a NaN, true of 0 and -0
+abbrev pub within : Float → Float → Float → Bool
+within lo hi x = le lo x && le x hi
+
+abbrev pub nought : Float
+nought = fin false 0 (pos 0)
+
+-- "Coupon lies from 0 to 100"
+abbrev pub couponInRange : Float → Bool
+couponInRange c = within nought hundred c
+
+-- "yield from 0 to 1"
+abbrev pub lowestYield : Float
+lowestYield = nought
+
+abbrev pub highestYield : Float
+highestYield = one
+
+abbrev pub yieldInRange : Float → Bool
+yieldInRange y = within lowestYield highestYield y
+
+-- "periods (1 to 240 half-years)"
+abbrev pub periodsInRange : ℕ → Bool
+periodsInRange n = leb 1 n && leb n 240
+
+abbrev pub termsInRange : Terms → Bool
+termsInRange (Zero y) = yieldInRange y
+termsInRange (Fixed c y) = couponInRange c && yieldInRange y
+
+unfoldable pub inRange : Bond → Bool
+inRange b = periodsInRange (b .periods) && termsInRange (b .terms)

@@ -1,0 +1,115 @@
+// The price of a bond, struck on a coupon date after payment: document 01's formula in binary64, each operation rounded once, in its order.
+// No function asks anything of its caller: a price is defined for every bond, also for one whose terms are out of range.
+ghost use mathlib.Core.Path.{_≡_};
+ghost use lib.Ieee.{binary64, toBits};
+ghost use Rattle.pricer.specs.Price.{zeroPrice, fixedPrice, priceOf, priceBits};
+ghost use Rattle.pricer.specs.Range.{couponInRange, yieldInRange, termsInRange, inRange};
+
+// The terms of a bond: a zero-coupon bond has its annual yield, a fixed coupon bond its annual coupon per 100 of face and its annual yield.
+pub enum Terms {
+    Zero(f64),
+    Fixed(f64, f64),
+}
+
+// An entry of the book once it is read: half-years left, and terms.
+pub struct Bond {
+    pub periods: u8,
+    pub terms: Terms,
+}
+
+// What the pricer is handed for a fixed coupon bond. The yield (to maturity) is named ytm, since `yield` is a word of the language.
+pub struct FixedBond {
+    pub periods: u8,
+    pub coupon: f64,
+    pub ytm: f64,
+}
+
+pub fn price_zero(periods: u8, ytm: f64) -> f64
+    ensures { λ r. ⌜ r ≡ zeroPrice ytm periods ⌝ }
+{
+    let d = 1.0 + ytm / 2.0;
+    let mut p = 100.0;
+    let mut i: u8 = 0;
+    while i < periods {
+        p = p / d;
+        i += 1;
+    }
+    p
+}
+
+pub fn price_fixed(b: FixedBond) -> f64
+    ensures { λ r. ⌜ r ≡ fixedPrice b ⌝ }
+{
+    let d = 1.0 + b.ytm / 2.0;
+    let h = b.coupon / 2.0;
+    let n = b.periods;
+    let mut p = 100.0;
+    let mut i: u8 = 0;
+    while i < n {
+        p = (p + h) / d;
+        i += 1;
+    }
+    p
+}
+
+pub fn price(b: Bond) -> f64
+    ensures { λ r. ⌜ r ≡ priceOf b ⌝ }
+{
+    let n = b.periods;
+    let t = b.terms;
+    match t {
+        Terms::Zero(y) => price_zero(n, y),
+        Terms::Fixed(c, y) => price_fixed(FixedBond {
+            periods: n,
+            coupon: c,
+            ytm: y,
+        }),
+    }
+}
+
+// The 64 bits of x. A NaN has many bit patterns; the definition fixes one, which stands here.
+pub fn bits(x: f64) -> u64
+    ensures { λ r. ⌜ r ≡ toBits binary64 x ⌝ }
+{
+    if x != x {
+        0x7ff8_0000_0000_0000
+    } else {
+        f64::to_bits(x)
+    }
+}
+
+pub fn price_bits(b: Bond) -> u64
+    ensures { λ r. ⌜ r ≡ priceBits b ⌝ }
+{
+    bits(price(b))
+}
+
+pub fn coupon_in_range(c: f64) -> bool
+    ensures { λ r. ⌜ r ≡ couponInRange c ⌝ }
+{
+    (0.0 <= c) & (c <= 100.0)
+}
+
+pub fn yield_in_range(y: f64) -> bool
+    ensures { λ r. ⌜ r ≡ yieldInRange y ⌝ }
+{
+    (0.0 <= y) & (y <= 1.0)
+}
+
+pub fn terms_in_range(t: Terms) -> bool
+    ensures { λ r. ⌜ r ≡ termsInRange t ⌝ }
+{
+    match t {
+        Terms::Zero(y) => yield_in_range(y),
+        Terms::Fixed(c, y) => coupon_in_range(c) & yield_in_range(y),
+    }
+}
+
+// Whether a bond's periods, coupon and yield lie in the ranges of the book.
+pub fn in_range(b: Bond) -> bool
+    ensures { λ r. ⌜ r ≡ inRange b ⌝ }
+{
+    let n = b.periods;
+    let t = b.terms;
+    (1 <= n) & (n <= 240) & terms_in_range(t)
+}
