@@ -1,0 +1,1 @@
+// What a machine does with a message that is delivered to it, by kind.

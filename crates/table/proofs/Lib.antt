@@ -1,0 +1,4 @@
+pub mod Long
+pub mod Views
+pub mod Messages
+pub mod Wipe

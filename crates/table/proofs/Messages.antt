@@ -1,0 +1,114 @@
+-- What sending, taking off and dropping do to the list of the messages in flight, and that the slots past it stay empty.
+-- Assumes nothing.
+use Prim.Native.Nat.{ℕ, suc, _+_, _-_, _<_}
+use mathlib.Core.Path.{_≡_, refl, sym, ap, _∙_}
+use mathlib.Core.Bool.{Bool}
+use mathlib.Core.List.{List, [], _∷_, _++_, append-assoc}
+use native.Mathlib.Numerals.{add-one}
+use native.Mathlib.Omega.{arith}
+use lib.ListN.{length, getD, take, drop, set, replicate, length-set, length-append, length-take, length-drop, take-append-drop, replicate-append-replicate}
+use lib.Seq.{take-suc-set, take-append-seam, take-append-le, drop-append-le, take-at, length-take-le, getD-take, drop-at}
+use Rattle.table.specs.declared.Table.{Table}
+use Rattle.table.specs.declared.Message.{Message}
+use Rattle.table.specs.Views.{noMessage, nodeAt, flight, messageAt, withMessages}
+use Rattle.table.specs.Messages.{push, pull, sift, send}
+use Rattle.lists.specs.Scan.{without, keep, padTo}
+use lib.Dec.{eqb}
+use Rattle.lists.proofs.Cases.{byBool}
+use Rattle.lists.proofs.Scans.{pad-more, length-pad, length-keep}
+use Rattle.table.proofs.Views.{Sized, sized-messages, length-flight}
+
+-- the slots past those in flight are empty
+unfoldable pub Padded : Table → Type 0
+Padded t = t .messages ≡ padTo 128 noMessage (flight t)
+
+pub flight-sift : (t : Table) (p : Message → Bool) → flight (sift t p) ≡ keep p (flight t)
+unfolding flight sift withMessages padTo
+flight-sift t p = take-append-seam (keep p (take (t .«in_flight») (t .messages))) _
+
+module _ (t : Table) (s : Sized t) where
+  pub flight-push : (m : Message) → t .«in_flight» < 128 → flight (push t m) ≡ flight t ++ (m ∷ [])
+  unfolding flight push withMessages
+  flight-push m l = rw (add-one, take-suc-set (t .messages) (t .«in_flight») m (omega arith))
+
+  -- the list of slots is that of the messages in flight and a rest
+  split : (k : ℕ) → k < t .«in_flight» → without k (t .messages) ≡ without k (flight t) ++ drop (t .«in_flight») (t .messages)
+  unfolding flight without
+  split k h =
+      let n = t .«in_flight» in
+      let xs = take n (t .messages) in
+      let ys = drop n (t .messages) in
+      let e : length xs ≡ n = length-take-le n (t .messages) (omega arith) in
+      ap (λ (l : List Message). take k l ++ drop (suc k) l) (sym (take-append-drop n (t .messages)))
+      ∙ rw (take-append-le k xs ys (omega arith), drop-append-le (suc k) xs ys (omega arith), append-assoc)
+
+  length-rest : (k : ℕ) → k < t .«in_flight» → length (without k (flight t)) ≡ t .«in_flight» - 1
+  unfolding without
+  length-rest k h = let e = length-flight t s in simp (length-append, length-take, length-drop) (omega arith)
+
+  pub flight-pull : (k : ℕ) → k < t .«in_flight» → flight (pull t k) ≡ without k (flight t)
+  flight-pull k h = unpull ∙ rw (split k h, append-assoc) (take-at (without k (flight t)) (drop (t .«in_flight») (t .messages) ++ (noMessage ∷ [])) (t .«in_flight» - 1) (length-rest k h))
+    where
+      unpull : flight (pull t k) ≡ take (t .«in_flight» - 1) (without k (t .messages) ++ (noMessage ∷ []))
+      unpull = unfold flight pull withMessages in refl
+
+  pub sized-push : (m : Message) → t .«in_flight» < 128 → Sized (push t m)
+  unfolding push
+  sized-push m l = sized-messages t _ _ (simp length-set (s .messages)) (omega arith) s
+
+  pub sized-send : (m : Message) → t .«in_flight» < 128 → Sized (send t m)
+  unfolding send
+  sized-send m l = byBool (eqb (nodeAt t (m .to) .alive) 1) (λ e. rw (e, send) (sized-push m l)) (λ e. rw (e, send) s)
+
+  pub sized-pull : (k : ℕ) → k < t .«in_flight» → Sized (pull t k)
+  unfolding pull without
+  sized-pull k h = sized-messages t _ _ (simp (length-append, length-take, length-drop) (omega arith)) (omega arith) s
+
+  pub sized-sift : (p : Message → Bool) → Sized (sift t p)
+  unfolding sift
+  sized-sift p =
+      let a = length-keep p (flight t) in
+      let b = length-flight t s in
+      sized-messages t _ _ (length-pad 128 noMessage (keep p (flight t)) (omega arith)) (omega arith) s
+
+  pub message-flight : (i : ℕ) → i < t .«in_flight» → getD (flight t) i noMessage ≡ messageAt t i
+  unfolding flight messageAt
+  message-flight i h = getD-take (t .«in_flight») (t .messages) i noMessage h
+
+  pub padded-push : (m : Message) → t .«in_flight» < 128 → Padded t → Padded (push t m)
+  unfolding Padded
+  padded-push m l p =
+      let e = length-flight t s in
+      pushed
+      ∙ ap (λ (r : List Message). set r (t .«in_flight») m) p
+      ∙ ap (λ (k : ℕ). set (padTo 128 noMessage (flight t)) k m) (sym e)
+      ∙ pad-more 128 noMessage (flight t) m (omega arith)
+      ∙ ap (padTo 128 noMessage) (sym (flight-push m l))
+    where
+      pushed : push t m .messages ≡ set (t .messages) (t .«in_flight») m
+      pushed = unfold push withMessages in refl
+
+  pub padded-pull : (k : ℕ) → k < t .«in_flight» → Padded t → Padded (pull t k)
+  unfolding Padded padTo
+  padded-pull k h p =
+      let n = t .«in_flight» in
+      let e = length-flight t s in
+      let d : drop n (t .messages) ≡ replicate (128 - n) noMessage =
+      ap (drop n) p ∙ drop-at (flight t) (replicate (128 - length (flight t)) noMessage) n e ∙ ap (λ (i : ℕ). replicate (128 - i) noMessage) e in
+      let c : 128 - length (without k (flight t)) ≡ 128 - n + 1 = omega (arith, length-rest k h) in
+      let f : replicate (128 - n) noMessage ++ (noMessage ∷ []) ≡ replicate (128 - n + 1) noMessage = replicate-append-replicate (128 - n) 1 noMessage in
+      let r : without k (t .messages) ++ (noMessage ∷ []) ≡ without k (flight t) ++ replicate (128 - n + 1) noMessage = rw (split k h, append-assoc, d, f) in
+      pulled
+      ∙ r
+      ∙ ap (λ (i : ℕ). without k (flight t) ++ replicate i noMessage) (sym c)
+      ∙ ap (padTo 128 noMessage) (sym (flight-pull k h))
+    where
+      pulled : pull t k .messages ≡ without k (t .messages) ++ (noMessage ∷ [])
+      pulled = unfold pull withMessages in refl
+
+  pub padded-sift : (p : Message → Bool) → Padded (sift t p)
+  unfolding Padded
+  padded-sift p = sifted ∙ ap (padTo 128 noMessage) (sym (flight-sift t p))
+    where
+      sifted : sift t p .messages ≡ padTo 128 noMessage (keep p (flight t))
+      sifted = unfold sift withMessages in refl

@@ -1,0 +1,309 @@
+-- The laws of the table's views over its updates. Everything but the proofs of code goes by these, with the views shut.
+-- Assumes nothing.
+use mathlib.Core.Path.{_≡_, refl}
+use mathlib.Core.Logic.{_≢_}
+use mathlib.Core.List.{List}
+use Prim.Native.Nat.{ℕ, _+_, _*_, _-_, _≤_, _<_}
+use native.Mathlib.Omega.{arith}
+use lib.ListN.{length, length-set}
+use lib.Seq.{getD-set-same, getD-set-other, length-take-le}
+use Rattle.table.specs.declared.Job.{Job}
+use Rattle.table.specs.declared.Machine.{Machine}
+use Rattle.table.specs.declared.Message.{Message}
+use Rattle.table.specs.declared.Table.{Table}
+use Rattle.lists.proofs.Cases.{byEq}
+use Rattle.table.specs.Views.{noJob, noMachine, bondAt, jobAt, nodeAt, poolAt, toldAt, messageAt, flight, withJob, withNode, withPool, withTold, withMessages}
+
+-- the arrays have their lengths
+pub record Sized (t : Table) : Type 0 where
+  pub jobs : length (t .jobs) ≡ 64
+  pub nodes : length (t .nodes) ≡ 16
+  pub told : length (t .told) ≡ 256
+  pub pools : length (t .pools) ≡ 1024
+  pub messages : length (t .messages) ≡ 128
+  pub used : t .«in_flight» ≤ 128
+
+pub sized-job : (t : Table) (j : ℕ) (v : Job) → Sized t → Sized (withJob t j v)
+unfolding withJob
+sized-job t j v s = record { jobs = simp length-set (s .jobs); nodes = s .nodes; told = s .told; pools = s .pools; messages = s .messages; used = s .used }
+
+pub sized-node : (t : Table) (m : ℕ) (v : Machine) → Sized t → Sized (withNode t m v)
+unfolding withNode
+sized-node t m v s = record { jobs = s .jobs; nodes = simp length-set (s .nodes); told = s .told; pools = s .pools; messages = s .messages; used = s .used }
+
+pub sized-pool : (t : Table) (m j r : ℕ) → Sized t → Sized (withPool t m j r)
+unfolding withPool
+sized-pool t m j r s = record { jobs = s .jobs; nodes = s .nodes; told = s .told; pools = simp length-set (s .pools); messages = s .messages; used = s .used }
+
+pub sized-told : (t : Table) (m d r : ℕ) → Sized t → Sized (withTold t m d r)
+unfolding withTold
+sized-told t m d r s = record { jobs = s .jobs; nodes = s .nodes; told = simp length-set (s .told); pools = s .pools; messages = s .messages; used = s .used }
+
+pub sized-messages : (t : Table) (n : ℕ) (l : List Message) → length l ≡ 128 → n ≤ 128 → Sized t → Sized (withMessages t n l)
+unfolding withMessages
+sized-messages t n l e h s = record { jobs = s .jobs; nodes = s .nodes; told = s .told; pools = s .pools; messages = e; used = h }
+
+-- ---- a part after its own update
+module _ (t : Table) (s : Sized t) where
+  pub job-same : (j : ℕ) (v : Job) → j < 64 → jobAt (withJob t j v) j ≡ v
+  unfolding jobAt withJob
+  job-same j v h = getD-set-same (t .jobs) j v noJob (omega arith)
+
+  pub node-same : (m : ℕ) (v : Machine) → m < 16 → nodeAt (withNode t m v) m ≡ v
+  unfolding nodeAt withNode
+  node-same m v h = getD-set-same (t .nodes) m v noMachine (omega arith)
+
+  pub pool-same : (m j r : ℕ) → m < 16 → j < 64 → poolAt (withPool t m j r) m j ≡ r
+  unfolding poolAt withPool
+  pool-same m j r h k = getD-set-same (t .pools) (m * 64 + j) r 0 (omega arith)
+
+  pub told-same : (m j r : ℕ) → m < 16 → j < 16 → toldAt (withTold t m j r) m j ≡ r
+  unfolding toldAt withTold
+  told-same m j r h k = getD-set-same (t .told) (m * 16 + j) r 0 (omega arith)
+
+  pub length-flight : length (flight t) ≡ t .«in_flight»
+  unfolding flight
+  length-flight = length-take-le (t .«in_flight») (t .messages) (omega arith)
+
+-- ---- a part after the update of another place
+pub job-other : (t : Table) (j k : ℕ) (v : Job) → k ≢ j → jobAt (withJob t j v) k ≡ jobAt t k
+unfolding jobAt withJob
+job-other t j k v h = getD-set-other (t .jobs) j k v noJob h
+
+pub node-other : (t : Table) (j k : ℕ) (v : Machine) → k ≢ j → nodeAt (withNode t j v) k ≡ nodeAt t k
+unfolding nodeAt withNode
+node-other t j k v h = getD-set-other (t .nodes) j k v noMachine h
+
+pub pool-other-node : (t : Table) (m j k i r : ℕ) → j < 64 → i < 64 → k ≢ m → poolAt (withPool t m j r) k i ≡ poolAt t k i
+unfolding poolAt withPool
+pool-other-node t m j k i r a b h = getD-set-other (t .pools) (m * 64 + j) (k * 64 + i) r 0 (omega arith)
+
+pub pool-other-job : (t : Table) (m j k i r : ℕ) → j < 64 → i < 64 → i ≢ j → poolAt (withPool t m j r) k i ≡ poolAt t k i
+unfolding poolAt withPool
+pool-other-job t m j k i r a b h = getD-set-other (t .pools) (m * 64 + j) (k * 64 + i) r 0 (omega arith)
+
+pub told-other : (t : Table) (m j k i r : ℕ) → j < 16 → i < 16 → i ≢ j → toldAt (withTold t m j r) k i ≡ toldAt t k i
+unfolding toldAt withTold
+told-other t m j k i r a b h = getD-set-other (t .told) (m * 16 + j) (k * 16 + i) r 0 (omega arith)
+
+pub told-other-node : (t : Table) (m j k i r : ℕ) → j < 16 → i < 16 → k ≢ m → toldAt (withTold t m j r) k i ≡ toldAt t k i
+unfolding toldAt withTold
+told-other-node t m j k i r a b h = getD-set-other (t .told) (m * 16 + j) (k * 16 + i) r 0 (omega arith)
+
+-- ---- a part after the update of another part
+pub bond-job : (t : Table) (j : ℕ) (v : Job) (k : ℕ) → bondAt (withJob t j v) k ≡ bondAt t k
+unfolding bondAt withJob
+bond-job t j v k = refl
+
+pub bond-node : (t : Table) (m : ℕ) (v : Machine) (k : ℕ) → bondAt (withNode t m v) k ≡ bondAt t k
+unfolding bondAt withNode
+bond-node t m v k = refl
+
+pub bond-pool : (t : Table) (m j r : ℕ) (k : ℕ) → bondAt (withPool t m j r) k ≡ bondAt t k
+unfolding bondAt withPool
+bond-pool t m j r k = refl
+
+pub bond-told : (t : Table) (m d r : ℕ) (k : ℕ) → bondAt (withTold t m d r) k ≡ bondAt t k
+unfolding bondAt withTold
+bond-told t m d r k = refl
+
+pub bond-messages : (t : Table) (n : ℕ) (l : List Message) (k : ℕ) → bondAt (withMessages t n l) k ≡ bondAt t k
+unfolding bondAt withMessages
+bond-messages t n l k = refl
+
+pub job-node : (t : Table) (m : ℕ) (v : Machine) (k : ℕ) → jobAt (withNode t m v) k ≡ jobAt t k
+unfolding jobAt withNode
+job-node t m v k = refl
+
+pub job-pool : (t : Table) (m j r : ℕ) (k : ℕ) → jobAt (withPool t m j r) k ≡ jobAt t k
+unfolding jobAt withPool
+job-pool t m j r k = refl
+
+pub job-told : (t : Table) (m d r : ℕ) (k : ℕ) → jobAt (withTold t m d r) k ≡ jobAt t k
+unfolding jobAt withTold
+job-told t m d r k = refl
+
+pub job-messages : (t : Table) (n : ℕ) (l : List Message) (k : ℕ) → jobAt (withMessages t n l) k ≡ jobAt t k
+unfolding jobAt withMessages
+job-messages t n l k = refl
+
+pub node-job : (t : Table) (j : ℕ) (v : Job) (k : ℕ) → nodeAt (withJob t j v) k ≡ nodeAt t k
+unfolding nodeAt withJob
+node-job t j v k = refl
+
+pub node-pool : (t : Table) (m j r : ℕ) (k : ℕ) → nodeAt (withPool t m j r) k ≡ nodeAt t k
+unfolding nodeAt withPool
+node-pool t m j r k = refl
+
+pub node-told : (t : Table) (m d r : ℕ) (k : ℕ) → nodeAt (withTold t m d r) k ≡ nodeAt t k
+unfolding nodeAt withTold
+node-told t m d r k = refl
+
+pub node-messages : (t : Table) (n : ℕ) (l : List Message) (k : ℕ) → nodeAt (withMessages t n l) k ≡ nodeAt t k
+unfolding nodeAt withMessages
+node-messages t n l k = refl
+
+pub pool-job : (t : Table) (j : ℕ) (v : Job) (k i : ℕ) → poolAt (withJob t j v) k i ≡ poolAt t k i
+unfolding poolAt withJob
+pool-job t j v k i = refl
+
+pub pool-node : (t : Table) (m : ℕ) (v : Machine) (k i : ℕ) → poolAt (withNode t m v) k i ≡ poolAt t k i
+unfolding poolAt withNode
+pool-node t m v k i = refl
+
+pub pool-told : (t : Table) (m d r : ℕ) (k i : ℕ) → poolAt (withTold t m d r) k i ≡ poolAt t k i
+unfolding poolAt withTold
+pool-told t m d r k i = refl
+
+pub pool-messages : (t : Table) (n : ℕ) (l : List Message) (k i : ℕ) → poolAt (withMessages t n l) k i ≡ poolAt t k i
+unfolding poolAt withMessages
+pool-messages t n l k i = refl
+
+pub told-job : (t : Table) (j : ℕ) (v : Job) (k i : ℕ) → toldAt (withJob t j v) k i ≡ toldAt t k i
+unfolding toldAt withJob
+told-job t j v k i = refl
+
+pub told-node : (t : Table) (m : ℕ) (v : Machine) (k i : ℕ) → toldAt (withNode t m v) k i ≡ toldAt t k i
+unfolding toldAt withNode
+told-node t m v k i = refl
+
+pub told-pool : (t : Table) (m j r : ℕ) (k i : ℕ) → toldAt (withPool t m j r) k i ≡ toldAt t k i
+unfolding toldAt withPool
+told-pool t m j r k i = refl
+
+pub told-messages : (t : Table) (n : ℕ) (l : List Message) (k i : ℕ) → toldAt (withMessages t n l) k i ≡ toldAt t k i
+unfolding toldAt withMessages
+told-messages t n l k i = refl
+
+pub message-job : (t : Table) (j : ℕ) (v : Job) (k : ℕ) → messageAt (withJob t j v) k ≡ messageAt t k
+unfolding messageAt withJob
+message-job t j v k = refl
+
+pub message-node : (t : Table) (m : ℕ) (v : Machine) (k : ℕ) → messageAt (withNode t m v) k ≡ messageAt t k
+unfolding messageAt withNode
+message-node t m v k = refl
+
+pub message-pool : (t : Table) (m j r : ℕ) (k : ℕ) → messageAt (withPool t m j r) k ≡ messageAt t k
+unfolding messageAt withPool
+message-pool t m j r k = refl
+
+pub message-told : (t : Table) (m d r : ℕ) (k : ℕ) → messageAt (withTold t m d r) k ≡ messageAt t k
+unfolding messageAt withTold
+message-told t m d r k = refl
+
+pub flight-job : (t : Table) (j : ℕ) (v : Job) → flight (withJob t j v) ≡ flight t
+unfolding flight withJob
+flight-job t j v = refl
+
+pub flight-node : (t : Table) (m : ℕ) (v : Machine) → flight (withNode t m v) ≡ flight t
+unfolding flight withNode
+flight-node t m v = refl
+
+pub flight-pool : (t : Table) (m j r : ℕ) → flight (withPool t m j r) ≡ flight t
+unfolding flight withPool
+flight-pool t m j r = refl
+
+pub flight-told : (t : Table) (m d r : ℕ) → flight (withTold t m d r) ≡ flight t
+unfolding flight withTold
+flight-told t m d r = refl
+
+pub machines-job : (t : Table) (j : ℕ) (v : Job) → withJob t j v .machines ≡ t .machines
+unfolding withJob
+machines-job t j v = refl
+
+pub machines-node : (t : Table) (m : ℕ) (v : Machine) → withNode t m v .machines ≡ t .machines
+unfolding withNode
+machines-node t m v = refl
+
+pub machines-pool : (t : Table) (m j r : ℕ) → withPool t m j r .machines ≡ t .machines
+unfolding withPool
+machines-pool t m j r = refl
+
+pub machines-told : (t : Table) (m d r : ℕ) → withTold t m d r .machines ≡ t .machines
+unfolding withTold
+machines-told t m d r = refl
+
+pub machines-messages : (t : Table) (n : ℕ) (l : List Message) → withMessages t n l .machines ≡ t .machines
+unfolding withMessages
+machines-messages t n l = refl
+
+pub entries-job : (t : Table) (j : ℕ) (v : Job) → withJob t j v .entries ≡ t .entries
+unfolding withJob
+entries-job t j v = refl
+
+pub entries-node : (t : Table) (m : ℕ) (v : Machine) → withNode t m v .entries ≡ t .entries
+unfolding withNode
+entries-node t m v = refl
+
+pub entries-pool : (t : Table) (m j r : ℕ) → withPool t m j r .entries ≡ t .entries
+unfolding withPool
+entries-pool t m j r = refl
+
+pub entries-told : (t : Table) (m d r : ℕ) → withTold t m d r .entries ≡ t .entries
+unfolding withTold
+entries-told t m d r = refl
+
+pub entries-messages : (t : Table) (n : ℕ) (l : List Message) → withMessages t n l .entries ≡ t .entries
+unfolding withMessages
+entries-messages t n l = refl
+
+pub bonds-job : (t : Table) (j : ℕ) (v : Job) → withJob t j v .bonds ≡ t .bonds
+unfolding withJob
+bonds-job t j v = refl
+
+pub bonds-node : (t : Table) (m : ℕ) (v : Machine) → withNode t m v .bonds ≡ t .bonds
+unfolding withNode
+bonds-node t m v = refl
+
+pub bonds-pool : (t : Table) (m j r : ℕ) → withPool t m j r .bonds ≡ t .bonds
+unfolding withPool
+bonds-pool t m j r = refl
+
+pub bonds-told : (t : Table) (m d r : ℕ) → withTold t m d r .bonds ≡ t .bonds
+unfolding withTold
+bonds-told t m d r = refl
+
+pub bonds-messages : (t : Table) (n : ℕ) (l : List Message) → withMessages t n l .bonds ≡ t .bonds
+unfolding withMessages
+bonds-messages t n l = refl
+
+pub used-job : (t : Table) (j : ℕ) (v : Job) → withJob t j v .«in_flight» ≡ t .«in_flight»
+unfolding withJob
+used-job t j v = refl
+
+pub used-node : (t : Table) (m : ℕ) (v : Machine) → withNode t m v .«in_flight» ≡ t .«in_flight»
+unfolding withNode
+used-node t m v = refl
+
+pub used-pool : (t : Table) (m j r : ℕ) → withPool t m j r .«in_flight» ≡ t .«in_flight»
+unfolding withPool
+used-pool t m j r = refl
+
+pub used-told : (t : Table) (m d r : ℕ) → withTold t m d r .«in_flight» ≡ t .«in_flight»
+unfolding withTold
+used-told t m d r = refl
+
+pub slots-job : (t : Table) (j : ℕ) (v : Job) → withJob t j v .messages ≡ t .messages
+unfolding withJob
+slots-job t j v = refl
+
+pub slots-node : (t : Table) (m : ℕ) (v : Machine) → withNode t m v .messages ≡ t .messages
+unfolding withNode
+slots-node t m v = refl
+
+pub slots-pool : (t : Table) (m j r : ℕ) → withPool t m j r .messages ≡ t .messages
+unfolding withPool
+slots-pool t m j r = refl
+
+pub slots-told : (t : Table) (m d r : ℕ) → withTold t m d r .messages ≡ t .messages
+unfolding withTold
+slots-told t m d r = refl
+
+pub ruleset views = (bond-job, bond-node, bond-pool, bond-told, bond-messages, job-node, job-pool, job-told, job-messages, node-job, node-pool, node-told, node-messages, pool-job, pool-node, pool-told, pool-messages, told-job, told-node, told-pool, told-messages, message-job, message-node, message-pool, message-told, flight-job, flight-node, flight-pool, flight-told, machines-job, machines-node, machines-pool, machines-told, machines-messages, entries-job, entries-node, entries-pool, entries-told, entries-messages, bonds-job, bonds-node, bonds-pool, bonds-told, bonds-messages, used-job, used-node, used-pool, used-told, slots-job, slots-node, slots-pool, slots-told)
+
+-- a machine's update that leaves it alive or dead as it was
+pub alive-node : (t : Table) (m : ℕ) (v : Machine) → Sized t → m < 16 → v .alive ≡ nodeAt t m .alive → (k : ℕ) → nodeAt (withNode t m v) k .alive ≡ nodeAt t k .alive
+alive-node t m v s h e k =
+    byEq k m
+    (λ d. rw d (rw (node-same t s m v h) e))
+    (λ d. rw (node-other t m k v d))

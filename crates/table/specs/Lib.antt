@@ -1,0 +1,3 @@
+pub mod Views
+pub mod Messages
+pub mod Parts

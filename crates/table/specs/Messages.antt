@@ -1,0 +1,50 @@
+-- The messages: sending, finding the oldest of a channel, taking one off, dropping some; and the scans of a pool.
+use mathlib.Core.List.{[], _∷_, _++_}
+use mathlib.Core.Bool.{Bool, not, cond, _&&_}
+use Prim.Native.Nat.{ℕ, _+_, _-_}
+use lib.Dec.{eqb}
+use lib.ListN.{length, set}
+use Rattle.lists.specs.Scan.{least, keep, padTo, without, upTo}
+use Rattle.table.specs.declared.Message.{Message}
+use Rattle.table.specs.declared.Table.{Table}
+use Rattle.table.specs.Views.{noMessage, nodeAt, poolAt, messageAt, flight, withMessages, withPool}
+
+-- "messages fill the slots from the first": m fills the next slot
+unfoldable pub push : Table → Message → Table
+push t m = withMessages t (t .«in_flight» + 1) (set (t .messages) (t .«in_flight») m)
+
+-- slot k goes, those after it move up by one, and the last slot is empty
+unfoldable pub pull : Table → ℕ → Table
+pull t k = withMessages t (t .«in_flight» - 1) (without k (t .messages) ++ (noMessage ∷ []))
+
+-- only the messages of which p holds stay in flight, in their order
+unfoldable pub sift : Table → (Message → Bool) → Table
+sift t p = withMessages t (length (keep p (flight t))) (padTo 128 noMessage (keep p (flight t)))
+
+-- "A message to a dead machine is stored nowhere."
+unfoldable pub send : Table → Message → Table
+send t m = cond (eqb (nodeAt t (m .to) .alive) 1) (push t m) t
+
+-- "The channel from one machine to another": from a to b
+abbrev pub chan : ℕ → ℕ → Message → Bool
+chan a b m = eqb (m .from) a && eqb (m .to) b
+
+-- "the oldest message from a to b": its slot, or the number in flight where there is none
+unfoldable pub oldest : Table → ℕ → ℕ → ℕ
+oldest t a b = least (λ i. chan a b (messageAt t i)) (t .«in_flight»)
+
+-- what stays where "messages to it are dropped"
+abbrev pub notTo : ℕ → Message → Bool
+notTo x m = not (eqb (m .to) x)
+
+-- what stays where "undelivered messages from b to a are dropped"
+abbrev pub notFrom : ℕ → ℕ → Message → Bool
+notFrom b a m = not (eqb (m .from) b && eqb (m .to) a)
+
+-- "the lowest job" in the pool of machine m, or 64 where it is empty
+unfoldable pub lowest : Table → ℕ → ℕ
+lowest t m = least (λ j. not (eqb (poolAt t m j) 0)) 64
+
+-- "its pool .. cleared": that of machine m
+unfoldable pub wipe : Table → ℕ → Table
+wipe t m = upTo (λ j u. withPool u m j 0) 64 t

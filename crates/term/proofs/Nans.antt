@@ -1,0 +1,61 @@
+-- The bits of a NaN make no bond in range, so a test for them before a number is made of them refuses nothing else. Assumes nothing.
+use mathlib.Core.Path.{_≡_, refl, sym, ap, _∙_, subst}
+use mathlib.Core.Bool.{Bool, true, false, not, _&&_, true≢false}
+use Prim.Native.Nat.{ℕ}
+use lib.Dec.{T, eqb}
+use lib.Ieee.{Float, nan, inf, fin, binary64, le, isNan, nanBits}
+use lib.Ieee.Bits.{nanBits-is}
+use Rattle.lists.proofs.Cases.{and-false, cond-same}
+use Rattle.pricer.specs.Range.{couponInRange, yieldInRange, periodsInRange, termsInRange, inRange}
+use Rattle.pricer.specs.declared.Bond.{Bond}
+use Rattle.pricer.specs.declared.Terms.{Terms}
+use Rattle.pricer.specs.declared.Terms.the-variants.{Zero, Fixed}
+use Rattle.term.specs.declared.Reading.the-variants.{Faulty, Valid}
+use Rattle.term.specs.Term.{of, checked, termFrom}
+
+is-nan : (x : Float) → isNan x ≡ true → x ≡ nan
+unfolding isNan
+is-nan nan h = refl
+is-nan (inf s) h = absurd (true≢false (sym h))
+is-nan (fin s m e) h = absurd (true≢false (sym h))
+
+-- bits of a NaN stand for the NaN
+nan-of : (b : ℕ) → nanBits binary64 b ≡ true → of b ≡ nan
+nan-of b h = is-nan (of b) (sym (nanBits-is binary64 b) ∙ h)
+
+-- no range has it
+coupon-nan : couponInRange nan ≡ false
+unfolding le
+coupon-nan = refl
+
+yield-nan : yieldInRange nan ≡ false
+unfolding le
+yield-nan = refl
+
+outside : (n : ℕ) (t : Terms) → termsInRange t ≡ false → checked (record { periods = n; terms = t }) ≡ Faulty
+unfolding checked inRange
+outside n t e = simp (e, and-false (periodsInRange n))
+
+module _ (n c y : ℕ) (h : nanBits binary64 y ≡ true) where
+  zero-yield : checked (record { periods = n; terms = Zero (of y) }) ≡ Faulty
+  zero-yield = outside n (Zero (of y)) (ap yieldInRange (nan-of y h) ∙ yield-nan)
+
+  fixed-yield : checked (record { periods = n; terms = Fixed (of c) (of y) }) ≡ Faulty
+  fixed-yield =
+      outside n (Fixed (of c) (of y))
+      (ap (λ (x : Float). couponInRange (of c) && yieldInRange x) (nan-of y h)
+      ∙ ap (λ (b : Bool). couponInRange (of c) && b) yield-nan
+      ∙ and-false (couponInRange (of c)))
+
+  pub yield-refused : (k : ℕ) → termFrom k n c y ≡ Faulty
+  unfolding termFrom
+  yield-refused k = rw (zero-yield, fixed-yield, cond-same (eqb c 0) Faulty, cond-same (eqb k 2) Faulty, cond-same (eqb k 1) Faulty)
+
+pub coupon-refused : (n c y : ℕ) → nanBits binary64 c ≡ true → checked (record { periods = n; terms = Fixed (of c) (of y) }) ≡ Faulty
+coupon-refused n c y h =
+    outside n (Fixed (of c) (of y))
+    (ap (λ (x : Float). couponInRange x && yieldInRange (of y)) (nan-of c h) ∙ ap (λ (b : Bool). b && yieldInRange (of y)) coupon-nan)
+
+-- what passed the test makes a number
+pub number : (r : Bool) (b : ℕ) → r ≡ nanBits binary64 b → r ≡ false → T (not (nanBits binary64 b))
+number r b e h = subst (λ (t : Bool). T (not t)) (sym h ∙ e) tt

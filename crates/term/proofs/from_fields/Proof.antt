@@ -1,0 +1,66 @@
+-- `term::from_fields` meets its contract: a NaN's bits are refused by the definition too, and past them each return is its case. Assumes nothing.
+use mathlib.Core.Path.{sym, ap, _∙_}
+use Rattle.lists.proofs.Rules.{flags}
+use Rattle.term.specs.Term.{termFrom}
+use Rattle.term.proofs.Nans.{yield-refused, coupon-refused, number}
+use borrow.Author.Needs.{needs}
+use Rattle.term.proofs.from_fields.Statement.{statement}
+use Rattle.term.proofs.from_fields.Tie as tie
+
+is-nan-requires : tie.Need-is-nan-requires
+is-nan-requires c κs = search needs
+
+returns : tie.Need-returns
+returns c = sym (yield-refused _ _ _ (sym (c .before .is-nan .ensures) ∙ c .if1 .taken) _)
+
+float-from-bits-y : tie.Need-float-from-bits-y
+float-from-bits-y c = number _ _ (c .before .is-nan .ensures) (c .if1 .left)
+
+returns-2 : tie.Need-returns-2
+unfolding termFrom
+returns-2 c = search flags
+
+in-rules-requires : tie.Need-in-rules-requires
+in-rules-requires c κs = search needs
+
+returns-3 : tie.Need-returns-3
+unfolding termFrom
+returns-3 c = rw (c .in-rules .ensures) (search flags)
+
+returns-4 : tie.Need-returns-4
+unfolding termFrom
+returns-4 c = search flags
+
+is-nan-requires-2 : tie.Need-is-nan-requires-2
+is-nan-requires-2 c κs = search needs
+
+returns-5 : tie.Need-returns-5
+unfolding termFrom
+returns-5 c = rw (coupon-refused _ _ _ (sym (c .before .is-nan2 .ensures) ∙ c .if5 .taken)) (search flags)
+
+float-from-bits-c : tie.Need-float-from-bits-c
+float-from-bits-c c = number _ _ (c .before .is-nan2 .ensures) (c .if5 .left)
+
+in-rules-requires-2 : tie.Need-in-rules-requires-2
+in-rules-requires-2 c κs = search needs
+
+returns-6 : tie.Need-returns-6
+unfolding termFrom
+returns-6 c = rw (c .in-rules2 .ensures) (search flags)
+
+pub from-fields-spec : {M : Type 1} → statement M
+from-fields-spec =
+    tie.close
+    (tie.spec
+    is-nan-requires
+    returns
+    float-from-bits-y
+    returns-2
+    in-rules-requires
+    returns-3
+    returns-4
+    is-nan-requires-2
+    returns-5
+    float-from-bits-c
+    in-rules-requires-2
+    returns-6)

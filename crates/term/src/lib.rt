@@ -1,0 +1,72 @@
+// A term of the book, 19 bytes, read into a bond.
+use pricer::Bond;
+use pricer::Terms;
+ghost use mathlib.Core.Path.{_≡_};
+ghost use lib.Ieee.{binary64, nanBits};
+ghost use Rattle.term.specs.Term.{checked, termFrom, termOf};
+
+// What reading a term finds: its bond, or a term outside the rules.
+pub enum Reading {
+    Faulty,
+    Valid(Bond),
+}
+
+// Whether these are the bits of a NaN: past those of infinity, whatever the sign.
+fn is_nan(bits: u64) -> bool
+    ensures { λ r. ⌜ r ≡ nanBits binary64 bits ⌝ }
+{
+    0x7ff0_0000_0000_0000 < bits % 0x8000_0000_0000_0000
+}
+
+fn in_rules(b: Bond) -> Reading
+    ensures { λ r. ⌜ r ≡ checked b ⌝ }
+{
+    if pricer::in_range(b) {
+        Reading::Valid(b)
+    } else {
+        Reading::Faulty
+    }
+}
+
+// The bond of a kind, periods, and the bits of coupon and yield. No number is a NaN's, so its bits are looked for first.
+fn from_fields(kind: u8, periods: u8, coupon: u64, ytm: u64) -> Reading
+    ensures { λ r. ⌜ r ≡ termFrom kind periods coupon ytm ⌝ }
+{
+    if is_nan(ytm) {
+        return Reading::Faulty;
+    }
+    let y = f64::from_bits(ytm);
+    if kind == 1 {
+        if coupon != 0 {
+            return Reading::Faulty;
+        }
+        return in_rules(Bond {
+            periods,
+            terms: Terms::Zero(y),
+        });
+    }
+    if kind != 2 {
+        return Reading::Faulty;
+    }
+    if is_nan(coupon) {
+        return Reading::Faulty;
+    }
+    let c = f64::from_bits(coupon);
+    in_rules(Bond {
+        periods,
+        terms: Terms::Fixed(c, y),
+    })
+}
+
+// Reads the 19 bytes of a term. Any other number of bytes is no term.
+pub fn read(s: &[u8]) -> Reading
+    ensures { λ r. ⌜ r ≡ termOf (now (s .entry)) ⌝ }
+{
+    if s.len() != 19 {
+        return Reading::Faulty;
+    }
+    if s[2] != 0 {
+        return Reading::Faulty;
+    }
+    from_fields(s[0], s[1], endian::u64_at(s, 3), endian::u64_at(s, 11))
+}
