@@ -2,7 +2,7 @@
 """Writes the identifiers that the program isin_vectors is run on, and what it must print.
 
 To run, at the root of the repository: /usr/bin/python3 tools/make_isin_vectors.py
-It needs: apt-get install python3-stdnum libalgorithm-checkdigits-perl
+It needs: apt-get install python3-stdnum libalgorithm-checkdigits-perl (last run with 1.18 and 1.3.6 of Debian 12)
 
 The verdict of an identifier, by document 01, "The identifier": 4 where the form is wrong, else 5 where the check digit is
 wrong, else 0. Two programs of other authorship decide the check digit: python3-stdnum here, and Perl's

@@ -2,7 +2,7 @@
 """Writes the terms and prices that the program price_vectors is run on, and what it must print.
 
 To run, at the root of the repository: /usr/bin/python3 tools/make_price_vectors.py
-It needs: apt-get install gcc
+It needs: apt-get install gcc (last run with 12.2 and Python 3.11 of Debian 12)
 
 Whether a term is within the rules of document 01, "The book", is decided here by struct and comparisons of floats.
 The price of a bond, by document 01, "The price", is computed twice: by price_vectors.c, a loop in the machine's binary64
@@ -161,7 +161,8 @@ def terms():
         backward = int.from_bytes(struct.pack("<d", rng.random()), "big")
         yield term(FIXED, 20, backward, ytm) if rng.random() < 0.5 else term(FIXED, 20, bits(4.25), backward)
     for _ in range(200):  # any parts together, with several faults or none
-        yield term(rng.choice([0, 1, 2, 2, 2, 3]), rng.choice([0, 1, 120, 240, 241]), rng.choice([0, *RATES]), rng.choice(RATES), rng.choice([0, 0, 0, 1]))
+        kind, periods, spare = rng.choice([0, 1, 2, 2, 2, 3]), rng.choice([0, 1, 120, 240, 241]), rng.choice([0, 0, 0, 1])
+        yield term(kind, periods, rng.choice([0, *RATES]), rng.choice(RATES), spare)
 
 
 def fail_unless(condition, message):
