@@ -1,0 +1,70 @@
+-- `validity::bonds_ok` meets its contract. The loop keeps: every element passed so far passes its test.
+-- Assumes nothing.
+use Rattle.lists.proofs.Rules.{tests}
+use borrow.Author.Tests.{not-true, not-false}
+use Prim.Native.Nat.{_≤_, _-_}
+use mathlib.Core.Path.{_≡_, sym, _∙_}
+use mathlib.Core.Bool.{true}
+use Rattle.lists.specs.Scan.{all}
+use Rattle.lists.proofs.Scans.{all-none, all-more, all-fail, all-end}
+use Rattle.table.specs.Views.{parts, bondAt}
+use Rattle.elements.specs.Elements.{bondOk}
+use Rattle.validity.specs.Validity.{bondsOk}
+use Rattle.validity.proofs.bonds_ok.Statement.{statement}
+use Rattle.validity.proofs.bonds_ok.Tie as tie
+
+abbrev Inv-loop : tie.InvT-loop
+Inv-loop t entries i₀ i = (i ≤ 64) × (all (λ j. bondOk (t .entries) j (bondAt t j)) i ≡ true)
+
+abbrev μ-loop : tie.MeasureT-loop
+μ-loop t entries i₀ i = 64 - i
+
+loop-holds : tie.Need-loop-holds Inv-loop μ-loop
+loop-holds c = (search tests, all-none _)
+
+mul-x : tie.Need-mul-x Inv-loop μ-loop
+mul-x c = search tests
+
+element-copy-out-x : tie.Need-element-copy-out-x Inv-loop μ-loop
+element-copy-out-x c = search tests
+
+cast-bond-ok : tie.Need-cast-bond-ok Inv-loop μ-loop
+cast-bond-ok c = search tests
+
+bond-ok-requires : tie.Need-bond-ok-requires Inv-loop μ-loop
+bond-ok-requires c κs = search tests
+
+returns : tie.Need-returns Inv-loop μ-loop
+unfolding bondsOk parts
+returns c = sym (all-fail _ _ _ (search tests) (sym (c .before .bond-ok .ensures) ∙ not-true _ (c .if1 .taken)))
+
+add-i : tie.Need-add-i Inv-loop μ-loop
+add-i c = search tests
+
+loop-less : tie.Need-loop-less Inv-loop μ-loop
+loop-less c = search tests
+
+loop-again : tie.Need-loop-again Inv-loop μ-loop
+unfolding parts
+loop-again c = (search tests, all-more _ _ (search tests) (sym (c .before .bond-ok .ensures) ∙ not-false _ (c .if1 .left)))
+
+returns-2 : tie.Need-returns-2 Inv-loop μ-loop
+unfolding bondsOk parts
+returns-2 c = all-end _ 64 (c .before .loop .i) (search tests) (search tests) (search tests)
+
+pub bonds-ok-spec : {M : Type 1} → statement M
+bonds-ok-spec =
+    tie.close
+    (tie.spec
+    Inv-loop
+    μ-loop
+    loop-holds
+    mul-x
+    element-copy-out-x
+    cast-bond-ok
+    bond-ok-requires
+    returns
+    add-i
+    loop-less
+    loop-again
+    returns-2)

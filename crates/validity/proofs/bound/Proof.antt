@@ -1,0 +1,70 @@
+-- `validity::bound` meets its contract. The loop counts the flags of the root's row passed so far.
+-- Assumes nothing.
+use Rattle.lists.proofs.Rules.{tests}
+use borrow.Author.Tests.{eq-eqb, ne-eqb}
+use Prim.Native.Nat.{ℕ, _≤_, _-_, _+_}
+use mathlib.Core.Path.{_≡_, ap}
+use native.Mathlib.Nat.{zero-add}
+use lib.Dec.{eqb}
+use Rattle.lists.specs.Scan.{countTo}
+use Rattle.lists.proofs.Scans.{count-none, count-yes, count-no, count-end}
+use Rattle.table.specs.Views.{parts, toldAt}
+use Rattle.validity.specs.Validity.{bound}
+use Rattle.validity.proofs.bound.Statement.{statement}
+use Rattle.validity.proofs.bound.Tie as tie
+
+abbrev Inv-loop : tie.InvT-loop
+Inv-loop t n₀ d₀ n d = (d ≤ 16) × (n ≤ d) × (n ≡ countTo (λ k. eqb (toldAt t 0 k) 1) d)
+
+abbrev μ-loop : tie.MeasureT-loop
+μ-loop t n₀ d₀ n d = 16 - d
+
+loop-holds : tie.Need-loop-holds Inv-loop μ-loop
+loop-holds c = (search tests, search tests, count-none _)
+
+element-copy-out-x : tie.Need-element-copy-out-x Inv-loop μ-loop
+element-copy-out-x c = search tests
+
+add-d : tie.Need-add-d Inv-loop μ-loop
+add-d c = search tests
+
+add-n : tie.Need-add-n Inv-loop μ-loop
+add-n c = search tests
+
+loop-less : tie.Need-loop-less Inv-loop μ-loop
+loop-less c = search tests
+
+loop-again : tie.Need-loop-again Inv-loop μ-loop
+unfolding parts
+loop-again c = (search tests, search tests, count-yes _ _ _ (search tests) (rw zero-add (eq-eqb _ _ (c .if1 .taken))))
+
+loop-less-2 : tie.Need-loop-less-2 Inv-loop μ-loop
+loop-less-2 c = search tests
+
+loop-again-2 : tie.Need-loop-again-2 Inv-loop μ-loop
+unfolding parts
+loop-again-2 c = (search tests, search tests, count-no _ _ _ (search tests) (rw zero-add (ne-eqb _ _ (c .if1 .left))))
+
+add-result : tie.Need-add-result Inv-loop μ-loop
+add-result c = search tests
+
+returns : tie.Need-returns Inv-loop μ-loop
+unfolding bound
+returns c = ap (λ (k : ℕ). k + 1) (count-end _ 16 (c .before .loop .d) _ (search tests) (search tests) (search tests))
+
+pub bound-spec : {M : Type 1} → statement M
+bound-spec =
+    tie.close
+    (tie.spec
+    Inv-loop
+    μ-loop
+    loop-holds
+    element-copy-out-x
+    add-d
+    add-n
+    loop-less
+    loop-again
+    loop-less-2
+    loop-again-2
+    add-result
+    returns)

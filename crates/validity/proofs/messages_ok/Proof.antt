@@ -1,0 +1,70 @@
+-- `validity::messages_ok` meets its contract. The loop keeps: every element passed so far passes its test.
+-- Assumes nothing.
+use Rattle.lists.proofs.Rules.{tests}
+use borrow.Author.Tests.{not-true, not-false}
+use Prim.Native.Nat.{_≤_, _-_}
+use mathlib.Core.Path.{_≡_, sym, _∙_}
+use mathlib.Core.Bool.{true}
+use Rattle.lists.specs.Scan.{all}
+use Rattle.lists.proofs.Scans.{all-none, all-more, all-fail, all-end}
+use Rattle.table.specs.Views.{parts, nodeAt, messageAt}
+use Rattle.elements.specs.Elements.{slotOk}
+use Rattle.validity.specs.Validity.{messagesOk}
+use Rattle.validity.proofs.messages_ok.Statement.{statement}
+use Rattle.validity.proofs.messages_ok.Tie as tie
+
+abbrev Inv-loop : tie.InvT-loop
+Inv-loop b t machines entries used nodes i₀ i = (i ≤ 128) × (all (λ i. slotOk (t .machines) (t .entries) b (t .«in_flight») i (nodeAt t (messageAt t i .to) .alive) (messageAt t i)) i ≡ true)
+
+abbrev μ-loop : tie.MeasureT-loop
+μ-loop b t machines entries used nodes i₀ i = 128 - i
+
+loop-holds : tie.Need-loop-holds Inv-loop μ-loop
+loop-holds c = (search tests, all-none _)
+
+mul-m : tie.Need-mul-m Inv-loop μ-loop
+mul-m c = search tests
+
+element-copy-out-m : tie.Need-element-copy-out-m Inv-loop μ-loop
+element-copy-out-m c = search tests
+
+cast-slot-ok : tie.Need-cast-slot-ok Inv-loop μ-loop
+cast-slot-ok c = search tests
+
+slot-ok-requires : tie.Need-slot-ok-requires Inv-loop μ-loop
+slot-ok-requires c κs = search tests
+
+returns : tie.Need-returns Inv-loop μ-loop
+unfolding messagesOk parts
+returns c = sym (all-fail _ _ _ (search tests) (sym (c .before .slot-ok .ensures) ∙ not-true _ (c .if1 .taken)))
+
+add-i : tie.Need-add-i Inv-loop μ-loop
+add-i c = search tests
+
+loop-less : tie.Need-loop-less Inv-loop μ-loop
+loop-less c = search tests
+
+loop-again : tie.Need-loop-again Inv-loop μ-loop
+unfolding parts
+loop-again c = (search tests, all-more _ _ (search tests) (sym (c .before .slot-ok .ensures) ∙ not-false _ (c .if1 .left)))
+
+returns-2 : tie.Need-returns-2 Inv-loop μ-loop
+unfolding messagesOk parts
+returns-2 c = all-end _ 128 (c .before .loop .i) (search tests) (search tests) (search tests)
+
+pub messages-ok-spec : {M : Type 1} → statement M
+messages-ok-spec =
+    tie.close
+    (tie.spec
+    Inv-loop
+    μ-loop
+    loop-holds
+    mul-m
+    element-copy-out-m
+    cast-slot-ok
+    slot-ok-requires
+    returns
+    add-i
+    loop-less
+    loop-again
+    returns-2)

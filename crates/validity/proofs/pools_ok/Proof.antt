@@ -1,0 +1,65 @@
+-- `validity::pools_ok` meets its contract. The loop keeps: every element passed so far passes its test.
+-- Assumes nothing.
+use Rattle.lists.proofs.Rules.{tests}
+use borrow.Author.Tests.{not-true, not-false}
+use Prim.Native.Nat.{_≤_, _-_}
+use mathlib.Core.Path.{_≡_, sym, _∙_}
+use mathlib.Core.Bool.{true}
+use Rattle.lists.specs.Scan.{all}
+use Rattle.lists.proofs.Scans.{all-none, all-more, all-fail, all-end}
+use Rattle.table.specs.Views.{parts}
+use Rattle.validity.specs.Validity.{poolRow, poolsOk}
+use Rattle.validity.proofs.pools_ok.Statement.{statement}
+use Rattle.validity.proofs.pools_ok.Tie as tie
+
+abbrev Inv-loop : tie.InvT-loop
+Inv-loop b t entries pools i₀ i = (i ≤ 16) × (all (poolRow t b) i ≡ true)
+
+abbrev μ-loop : tie.MeasureT-loop
+μ-loop b t entries pools i₀ i = 16 - i
+
+loop-holds : tie.Need-loop-holds Inv-loop μ-loop
+loop-holds c = (search tests, all-none _)
+
+mul-n : tie.Need-mul-n Inv-loop μ-loop
+mul-n c = search tests
+
+element-copy-out-n : tie.Need-element-copy-out-n Inv-loop μ-loop
+element-copy-out-n c = search tests
+
+pool-row-requires : tie.Need-pool-row-requires Inv-loop μ-loop
+pool-row-requires c κs = search tests
+
+returns : tie.Need-returns Inv-loop μ-loop
+unfolding poolsOk poolRow parts
+returns c = sym (all-fail _ _ _ (search tests) (sym (c .before .pool-row .ensures) ∙ not-true _ (c .if1 .taken)))
+
+add-i : tie.Need-add-i Inv-loop μ-loop
+add-i c = search tests
+
+loop-less : tie.Need-loop-less Inv-loop μ-loop
+loop-less c = search tests
+
+loop-again : tie.Need-loop-again Inv-loop μ-loop
+unfolding poolRow parts
+loop-again c = (search tests, all-more _ _ (search tests) (sym (c .before .pool-row .ensures) ∙ not-false _ (c .if1 .left)))
+
+returns-2 : tie.Need-returns-2 Inv-loop μ-loop
+unfolding poolsOk poolRow parts
+returns-2 c = all-end _ 16 (c .before .loop .i) (search tests) (search tests) (search tests)
+
+pub pools-ok-spec : {M : Type 1} → statement M
+pools-ok-spec =
+    tie.close
+    (tie.spec
+    Inv-loop
+    μ-loop
+    loop-holds
+    mul-n
+    element-copy-out-n
+    pool-row-requires
+    returns
+    add-i
+    loop-less
+    loop-again
+    returns-2)

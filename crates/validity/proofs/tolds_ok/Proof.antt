@@ -1,0 +1,60 @@
+-- `validity::tolds_ok` meets its contract. The loop keeps: every element passed so far passes its test.
+-- Assumes nothing.
+use Rattle.lists.proofs.Rules.{tests}
+use borrow.Author.Tests.{not-true, not-false}
+use Prim.Native.Nat.{_≤_, _-_, _+_, _*_}
+use mathlib.Core.Path.{_≡_, sym, _∙_}
+use mathlib.Core.Bool.{true}
+use Rattle.lists.specs.Scan.{all}
+use Rattle.lists.proofs.Scans.{all-none, all-more, all-fail, all-end}
+use Rattle.table.specs.Views.{parts}
+use Rattle.table.specs.Views.{noMachine}
+use Rattle.elements.specs.Elements.{toldOk}
+use lib.ListN.{getD}
+use Rattle.validity.specs.Validity.{toldRow, toldsOk}
+use Rattle.validity.proofs.tolds_ok.Statement.{statement}
+use Rattle.validity.proofs.tolds_ok.Tie as tie
+
+abbrev Inv-loop : tie.InvT-loop
+Inv-loop machines nodes told i₀ i = (i ≤ 16) × (all (λ m. all (λ d. toldOk machines (getD nodes d noMachine .alive) m d (getD told (m * 16 + d) 0)) 16) i ≡ true)
+
+abbrev μ-loop : tie.MeasureT-loop
+μ-loop machines nodes told i₀ i = 16 - i
+
+loop-holds : tie.Need-loop-holds Inv-loop μ-loop
+loop-holds c = (search tests, all-none _)
+
+told-row-requires : tie.Need-told-row-requires Inv-loop μ-loop
+told-row-requires c κs = search tests
+
+returns : tie.Need-returns Inv-loop μ-loop
+unfolding toldsOk toldRow parts
+returns c = sym (all-fail _ _ _ (search tests) (sym (c .before .told-row .ensures) ∙ not-true _ (c .if1 .taken)))
+
+add-i : tie.Need-add-i Inv-loop μ-loop
+add-i c = search tests
+
+loop-less : tie.Need-loop-less Inv-loop μ-loop
+loop-less c = search tests
+
+loop-again : tie.Need-loop-again Inv-loop μ-loop
+unfolding toldRow parts
+loop-again c = (search tests, all-more _ _ (search tests) (sym (c .before .told-row .ensures) ∙ not-false _ (c .if1 .left)))
+
+returns-2 : tie.Need-returns-2 Inv-loop μ-loop
+unfolding toldsOk toldRow parts
+returns-2 c = all-end _ 16 (c .before .loop .i) (search tests) (search tests) (search tests)
+
+pub tolds-ok-spec : {M : Type 1} → statement M
+tolds-ok-spec =
+    tie.close
+    (tie.spec
+    Inv-loop
+    μ-loop
+    loop-holds
+    told-row-requires
+    returns
+    add-i
+    loop-less
+    loop-again
+    returns-2)

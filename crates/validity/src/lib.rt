@@ -1,0 +1,214 @@
+// Refusal 9: whether a table is in order. One function for each array, over the tests of one element in the crate `elements`.
+ghost use mathlib.Core.Path.{_≡_};
+ghost use Prim.Native.Nat.{_+_, _*_, _<_};
+ghost use lib.ListN.{getD};
+ghost use Rattle.lists.specs.Scan.{all};
+ghost use Rattle.table.specs.Views.{noMachine};
+ghost use Rattle.elements.specs.Elements.{toldOk, cellOk, slotOk};
+ghost use Rattle.validity.specs.Validity.{sizesOk, bound, bondsOk, jobsOk, nodesOk, poolsOk, messagesOk, rootOk, toldsOk, tableOk};
+use table::Machine;
+use table::Message;
+use table::Table;
+
+fn sizes_ok(t: Table) -> bool
+    ensures { λ r. ⌜ r ≡ sizesOk t ⌝ }
+{
+    (2 <= t.machines) & (t.machines <= 16) & (t.entries <= 64) & (t.in_flight <= 128)
+}
+
+// 1 + the deaths the root was told of.
+fn bound(t: Table) -> u8
+    ensures { λ r. ⌜ r ≡ bound t ⌝ }
+{
+    let mut n: u8 = 0;
+    let mut d: usize = 0;
+    while d < 16 {
+        let x = t.told[d];
+        d += 1;
+        if x == 1 {
+            n += 1;
+        }
+    }
+    n + 1
+}
+
+fn bonds_ok(t: Table) -> bool
+    ensures { λ r. ⌜ r ≡ bondsOk t ⌝ }
+{
+    let entries = t.entries;
+    let mut i: usize = 0;
+    while i < 64 {
+        let x = t.bonds[i];
+        if !elements::bond_ok(entries, i as u8, x) {
+            return false;
+        }
+        i += 1;
+    }
+    true
+}
+
+fn jobs_ok(t: Table, b: u8) -> bool
+    ensures { λ r. ⌜ r ≡ jobsOk t b ⌝ }
+{
+    let machines = t.machines;
+    let entries = t.entries;
+    let mut i: usize = 0;
+    while i < 64 {
+        let v = t.jobs[i];
+        if !elements::job_ok(machines, entries, b, i as u8, v) {
+            return false;
+        }
+        i += 1;
+    }
+    true
+}
+
+fn nodes_ok(t: Table, b: u8) -> bool
+    ensures { λ r. ⌜ r ≡ nodesOk t b ⌝ }
+{
+    let machines = t.machines;
+    let entries = t.entries;
+    let mut i: usize = 0;
+    while i < 16 {
+        let n = t.nodes[i];
+        if !elements::node_ok(machines, entries, b, i as u8, n) {
+            return false;
+        }
+        i += 1;
+    }
+    true
+}
+
+// The pool of machine m, of which alive says whether it is.
+fn pool_row(entries: u8, b: u8, alive: u8, pools: [u8; 1024], m: usize) -> bool
+    requires { ⌜ m < 16 ⌝ }
+    ensures { λ r. ⌜ r ≡ all (λ j. cellOk entries b alive j (getD pools (m * 64 + j) 0)) 64 ⌝ }
+{
+    let base = m * 64;
+    let mut i: usize = 0;
+    while i < 64 {
+        let x = pools[base + i];
+        if !elements::cell_ok(entries, b, alive, i as u8, x) {
+            return false;
+        }
+        i += 1;
+    }
+    true
+}
+
+fn pools_ok(t: Table, b: u8) -> bool
+    ensures { λ r. ⌜ r ≡ poolsOk t b ⌝ }
+{
+    let entries = t.entries;
+    let pools = t.pools;
+    let mut i: usize = 0;
+    while i < 16 {
+        let n = t.nodes[i];
+        if !pool_row(entries, b, n.alive, pools, i) {
+            return false;
+        }
+        i += 1;
+    }
+    true
+}
+
+// Whether machine m is alive: 1 or 0, and 0 where there is none.
+fn alive_at(nodes: [Machine; 16], m: u8) -> u8
+    ensures { λ r. ⌜ r ≡ getD nodes m noMachine .alive ⌝ }
+{
+    if m < 16 {
+        let n = nodes[m as usize];
+        return n.alive;
+    }
+    0
+}
+
+// Slot i, which holds m.
+fn slot_ok(
+    machines: u8,
+    entries: u8,
+    b: u8,
+    used: u8,
+    i: u8,
+    nodes: [Machine; 16],
+    m: Message,
+) -> bool
+    ensures { λ r. ⌜ r ≡ slotOk machines entries b used i (getD nodes (m .to) noMachine .alive) m ⌝ }
+{
+    let alive = alive_at(nodes, m.to);
+    elements::slot_ok(machines, entries, b, used, i, alive, m)
+}
+
+fn messages_ok(t: Table, b: u8) -> bool
+    ensures { λ r. ⌜ r ≡ messagesOk t b ⌝ }
+{
+    let machines = t.machines;
+    let entries = t.entries;
+    let used = t.in_flight;
+    let nodes = t.nodes;
+    let mut i: usize = 0;
+    while i < 128 {
+        let m = t.messages[i];
+        if !slot_ok(machines, entries, b, used, i as u8, nodes, m) {
+            return false;
+        }
+        i += 1;
+    }
+    true
+}
+
+fn root_ok(t: Table) -> bool
+    ensures { λ r. ⌜ r ≡ rootOk t ⌝ }
+{
+    let n = t.nodes[0];
+    n.alive == 1
+}
+
+// What machine m has been told.
+fn told_row(machines: u8, nodes: [Machine; 16], told: [u8; 256], m: usize) -> bool
+    requires { ⌜ m < 16 ⌝ }
+    ensures { λ r. ⌜ r ≡ all (λ d. toldOk machines (getD nodes d noMachine .alive) m d (getD told (m * 16 + d) 0)) 16 ⌝ }
+{
+    let base = m * 16;
+    let mut i: usize = 0;
+    while i < 16 {
+        let n = nodes[i];
+        let x = told[base + i];
+        if !elements::told_ok(machines, n.alive, m as u8, i as u8, x) {
+            return false;
+        }
+        i += 1;
+    }
+    true
+}
+
+fn tolds_ok(t: Table) -> bool
+    ensures { λ r. ⌜ r ≡ toldsOk t ⌝ }
+{
+    let machines = t.machines;
+    let nodes = t.nodes;
+    let told = t.told;
+    let mut i: usize = 0;
+    while i < 16 {
+        if !told_row(machines, nodes, told, i) {
+            return false;
+        }
+        i += 1;
+    }
+    true
+}
+
+// Whether the table passes check 9: false for any table that refusal 9 is for.
+pub fn table_ok(t: Table) -> bool
+    ensures { λ r. ⌜ r ≡ tableOk t ⌝ }
+{
+    let b = bound(t);
+    sizes_ok(t)
+        & bonds_ok(t)
+        & jobs_ok(t, b)
+        & nodes_ok(t, b)
+        & pools_ok(t, b)
+        & messages_ok(t, b)
+        & root_ok(t)
+        & tolds_ok(t)
+}
