@@ -3,3 +3,8 @@ pub mod Kept
 pub mod Steps
 pub mod Weights
 pub mod Notices
+pub mod Deliveries
+pub mod Results
+pub mod Settled
+pub mod Jobs
+pub mod Drain

@@ -61,6 +61,10 @@ module _ (P : Table → Type 0) where
         there = rw next (r .there);
       }
 
+  -- a table of which Q holds is one of which P holds
+  pub reach-map : (Q : Table → Type 0) (t : Table) (n : ℕ) → ((u : Table) → Q u → P u) → Reach Q t n → Reach P t n
+  reach-map Q t n f r = record { events = r .events; few = r .few; accepted = r .accepted; there = f (runOf t (r .events)) (r .there) }
+
   -- first to a table of which Q holds
   pub reach-then : (Q : Table → Type 0) (t : Table) (n m : ℕ) → Reach Q t n → ((u : Table) → Q u → Reach P u m) → Reach P t (n + m)
   reach-then Q t n m a f =

@@ -19,6 +19,16 @@ use Rattle.invariant.proofs.Frame.{node-enter}
 use Rattle.invariant.proofs.State.{reservesJob, runsJob, has, dead}
 use Rattle.invariant.proofs.TripLaws.{dead-same}
 
+-- ---- no copy is reserved, none runs
+
+pub reservesJob-none : (n : Machine) (j r : ℕ) → n .«reserved_replica» ≡ 0 → reservesJob n j r ≡ false
+unfolding reservesJob
+reservesJob-none n j r e = rw (e, reservesJob)
+
+pub runsJob-none : (n : Machine) (j r : ℕ) → n .«running_replica» ≡ 0 → runsJob n j r ≡ false
+unfolding runsJob
+runsJob-none n j r e = rw (e, runsJob)
+
 -- ---- a machine's record is replaced by one that is as alive
 
 pub has-node : (t : Table) (b : ℕ) (v : Machine) (j r : ℕ) → Sized t → b < 16 → v .alive ≡ nodeAt t b .alive

@@ -21,6 +21,10 @@ pub dead-is : (t : Table) (p : ℕ) → (nodeAt t p .alive ≡ 1 → ⊥) → de
 unfolding dead
 dead-is t p h = rw (ne-eqb (nodeAt t p .alive) 1 h)
 
+pub dead-not : (t : Table) (p : ℕ) → nodeAt t p .alive ≡ 1 → dead t p ≡ 0
+unfolding dead
+dead-not t p h = rw (eq-eqb (nodeAt t p .alive) 1 h)
+
 pub dead-same : (t u : Table) (p : ℕ) → nodeAt u p .alive ≡ nodeAt t p .alive → dead u p ≡ dead t p
 unfolding dead
 dead-same t u p e = rw e
