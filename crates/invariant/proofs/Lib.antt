@@ -19,3 +19,5 @@ pub mod SideHandle
 pub mod SideEvents
 pub mod SideNotice
 pub mod Fixed
+pub mod PricesHandle
+pub mod PricesEvents
