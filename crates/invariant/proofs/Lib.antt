@@ -21,3 +21,4 @@ pub mod SideNotice
 pub mod Fixed
 pub mod PricesHandle
 pub mod PricesEvents
+pub mod Fresh
