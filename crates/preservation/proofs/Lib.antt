@@ -4,3 +4,8 @@ pub mod Updates
 pub mod Told
 pub mod Passed
 pub mod Sizes
+pub mod Handled
+pub mod Accepted
+pub mod Died
+pub mod Noticed
+pub mod Answers

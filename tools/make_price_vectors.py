@@ -1,0 +1,212 @@
+#!/usr/bin/python3
+"""Writes the terms and prices that the program price_vectors is run on, and what it must print.
+
+To run, at the root of the repository: /usr/bin/python3 tools/make_price_vectors.py
+It needs: apt-get install gcc (last run with 12.2 and Python 3.11 of Debian 12)
+
+Whether a term is within the rules of document 01, "The book", is decided here by struct and comparisons of floats.
+The price of a bond, by document 01, "The price", is computed twice: by price_vectors.c, a loop in the machine's binary64
+arithmetic, and here in exact rational arithmetic whose every operation is rounded once to the nearest binary64, ties to
+even. The script fails where the two differ in any bit.
+
+The result depends on nothing else: the random choices have a fixed seed.
+"""
+import math
+import pathlib
+import random
+import struct
+import subprocess
+import sys
+import tempfile
+from fractions import Fraction
+
+ZERO, FIXED = 1, 2  # the two kinds
+REFUSED = 7  # the number of a term outside the rules
+MOST = 65536 // 32  # records that the program reads of a file
+
+ROOT = pathlib.Path(__file__).resolve().parent.parent
+CRATE = ROOT / "crates" / "price_vectors"
+
+# The examples of document 01: kind, periods, coupon, yield and the price, which must come out so.
+EXAMPLES = [(FIXED, 2, 4.0, 0.0, 104.0), (ZERO, 2, 0.0, 0.5, 64.0), (FIXED, 1, 10.0, 0.5, 84.0)]
+
+
+def above(x):
+    return math.nextafter(x, math.inf)
+
+
+def below(x):
+    return math.nextafter(x, -math.inf)
+
+
+TINY = above(0.0)
+LEAST_NORMAL = 2.0 ** -1022
+SUBNORMAL = [TINY, 2 * TINY, 3 * TINY, LEAST_NORMAL / 3, below(LEAST_NORMAL), LEAST_NORMAL]
+# A yield of 2^-52 or 3 * 2^-52 puts 1 + yield / 2 halfway between two numbers; so does a coupon of 2^-46 or 3 * 2^-46 with 100 + coupon / 2.
+YIELDS = [0.0, -0.0, *SUBNORMAL, below(2.0 ** -52), 2.0 ** -52, above(2.0 ** -52), 3 * 2.0 ** -52, above(3 * 2.0 ** -52)]
+YIELDS += [1e-300, 1e-9, 0.0001, 0.0025, 0.01, 0.0175, 0.02, 0.03, 0.04, 0.0425, 0.05, 0.0575, 0.07, 0.1, 0.125, 0.25, 1 / 3, below(0.5)]
+YIELDS += [0.5, above(0.5), 0.5 ** 0.5, math.pi / 4, math.e - 2, 2 / 3, 0.99, below(below(1.0)), below(1.0), 1.0]
+COUPONS = [0.0, -0.0, *SUBNORMAL, below(2.0 ** -46), 2.0 ** -46, above(2.0 ** -46), 3 * 2.0 ** -46, above(3 * 2.0 ** -46)]
+COUPONS += [1e-300, 1e-12, 0.125, 0.375, 1.0, 2.5, math.e, math.pi, 4.0, 4.25, 5.75, 7.875, 10.0, 100 / 3, 50.0, 62.5, 99.99]
+COUPONS += [below(below(100.0)), below(100.0), 100.0]
+ENDS_OF_YIELD = [0.0, -0.0, TINY, 0.05, below(1.0), 1.0]
+ENDS_OF_COUPON = [0.0, -0.0, TINY, 4.25, below(100.0), 100.0]
+PERIODS = [1, 2, 3, 239, 240]
+
+
+def bits(x):
+    return struct.unpack("<Q", struct.pack("<d", x))[0]
+
+
+def of_bits(n):
+    return struct.unpack("<d", struct.pack("<Q", n))[0]
+
+
+def term(kind, periods, coupon_bits, yield_bits, spare=0):
+    """The 19 bytes of a term."""
+    return struct.pack("<BBBQQ", kind, periods, spare, coupon_bits, yield_bits)
+
+
+def bond(kind, periods, coupon, ytm):
+    return term(kind, periods, bits(coupon), bits(ytm))
+
+
+def within_the_rules(text):
+    """A NaN fails each comparison, and negative zero equals 0. A zero-coupon term's coupon has all 64 bits clear."""
+    kind, periods, spare, coupon, ytm = struct.unpack("<BBBdd", text)
+    if kind not in (ZERO, FIXED) or not 1 <= periods <= 240 or spare != 0:
+        return False
+    if not (0.0 <= coupon <= 100.0 and 0.0 <= ytm <= 1.0):
+        return False
+    return kind == FIXED or text[3:11] == bytes(8)
+
+
+def rounded(x):
+    """The binary64 nearest to a rational, ties to even: Python divides two integers so."""
+    return x.numerator / x.denominator
+
+
+def plus(a, b):
+    return rounded(Fraction(a) + Fraction(b))
+
+
+def over(a, b):
+    return rounded(Fraction(a) / Fraction(b))
+
+
+def rational_price(text):
+    """The price of a term within the rules. A fraction has no negative zero; no price or divisor is a zero, and a zero added to one has no effect."""
+    kind, periods, _, coupon, ytm = struct.unpack("<BBBdd", text)
+    d = plus(1.0, over(ytm, 2.0))
+    p = 100.0
+    for _ in range(periods):
+        p = over(plus(p, over(coupon, 2.0)), d) if kind == FIXED else over(p, d)
+    return bits(p)
+
+
+def c_prices(texts):
+    """The prices of terms within the rules by price_vectors.c."""
+    source = pathlib.Path(__file__).with_name("price_vectors.c")
+    lines = ["%d %d %x %x\n" % (k, n, c, y) for k, n, _, c, y in (struct.unpack("<BBBQQ", text) for text in texts)]
+    with tempfile.TemporaryDirectory() as folder:
+        program = pathlib.Path(folder) / "prices"
+        subprocess.run(["gcc", "-O2", "-ffp-contract=off", "-Wall", "-Werror", "-o", str(program), str(source)], check=True)
+        out = subprocess.run([str(program)], input="".join(lines), capture_output=True, text=True, check=True).stdout
+    return [int(line, 16) for line in out.split()]
+
+
+def bonds():
+    """Terms within the rules, for their prices."""
+    rng = random.Random(240)
+    yield from (bond(*example[:4]) for example in EXAMPLES)
+    for ytm in YIELDS:
+        yield from (bond(ZERO, n, 0.0, ytm) for n in PERIODS)
+        yield from (bond(FIXED, n, rng.choice(COUPONS), ytm) for n in PERIODS)
+    for coupon in COUPONS:
+        yield from (bond(FIXED, n, coupon, rng.choice(YIELDS)) for n in PERIODS)
+    for coupon in ENDS_OF_COUPON:
+        yield from (bond(FIXED, n, coupon, ytm) for ytm in ENDS_OF_YIELD for n in (1, 2, 240))
+    for n in range(1, 241):
+        yield bond(ZERO, n, 0.0, rng.choice([0.0375, 1 / 3, rng.random()]))
+        yield bond(FIXED, n, rng.choice([5.125, 100 / 7, 100 * rng.random()]), rng.choice([0.0375, 1 / 3, rng.random()]))
+    for _ in range(200):  # market rates: coupons in eighths, yields in hundredths of a percent
+        yield bond(FIXED, rng.randint(1, 60), rng.randint(0, 120) / 8, rng.randint(1, 1500) / 10000)
+    for _ in range(50):
+        yield bond(ZERO, rng.randint(1, 60), 0.0, rng.randint(1, 1500) / 10000)
+
+
+# Bit patterns of rates: inside and one step outside the ends, other signs and sizes, infinities, NaNs quiet and signalling.
+RATES = [bits(x) for end in (0.0, 0.05, 1.0, 100.0) for x in (below(end), end, above(end))]
+RATES += [bits(-x) for x in (0.0, TINY, LEAST_NORMAL, 0.05, 1.0, 100.0, sys.float_info.max, math.inf)]
+RATES += [bits(x) for x in (LEAST_NORMAL, 0.5, 2.0, 50.0, 101.0, 1e300, sys.float_info.max, math.inf)]
+RATES += [sign + n for sign in (0, 2 ** 63) for n in (0x7FF0000000000001, 0x7FF4000000000000, 0x7FF7FFFFFFFFFFFF)]
+RATES += [sign + n for sign in (0, 2 ** 63) for n in (0x7FF8000000000000, 0x7FF8000000000001, 0x7FFFFFFFFFFFFFFF)]
+
+
+def terms():
+    """Terms within the rules and outside them."""
+    rng = random.Random(7)
+    plain = [(ZERO, bits(0.0)), (FIXED, bits(4.25))]
+    ytm = bits(0.05)
+    for kind in (0, 1, 2, 3, 4, 127, 128, 254, 255):
+        yield from (term(kind, 20, coupon, ytm) for _, coupon in plain)
+    for kind, coupon in plain:
+        yield from (term(kind, n, coupon, ytm) for n in (0, 1, 2, 127, 128, 239, 240, 241, 242, 255))
+        yield from (term(kind, 20, coupon, ytm, spare) for spare in (1, 2, 127, 128, 255))
+        yield from (term(kind, 20, coupon, rate) for rate in RATES)
+        yield from (term(kind, 20, rate, ytm) for rate in RATES)
+        yield from (term(kind, 20, coupon, 2 ** k) for k in range(64))
+        yield from (term(kind, 20, 2 ** k, ytm) for k in range(64))
+    for _ in range(100):  # a rate with its bytes in the other order
+        backward = int.from_bytes(struct.pack("<d", rng.random()), "big")
+        yield term(FIXED, 20, backward, ytm) if rng.random() < 0.5 else term(FIXED, 20, bits(4.25), backward)
+    for _ in range(200):  # any parts together, with several faults or none
+        kind, periods, spare = rng.choice([0, 1, 2, 2, 2, 3]), rng.choice([0, 1, 120, 240, 241]), rng.choice([0, 0, 0, 1])
+        yield term(kind, periods, rng.choice([0, *RATES]), rng.choice(RATES), spare)
+
+
+def fail_unless(condition, message):
+    if not condition:
+        sys.exit("make_price_vectors.py: " + message)
+
+
+def priced(texts):
+    """The price bits of each term within the rules, on which both computations agree."""
+    inside = [text for text in texts if within_the_rules(text)]
+    prices = {}
+    for text, by_c in zip(inside, c_prices(inside), strict=True):
+        by_python = rational_price(text)
+        fail_unless(by_c == by_python, f"{text.hex()}: C has {by_c:016x}, rational arithmetic {by_python:016x}")
+        prices[text] = by_c
+    return prices
+
+
+def record(text, prices):
+    """The term's 19 bytes, the expected number (0 or 7), 4 bytes 0, the price bits (0 for a refused term): 32 bytes."""
+    return text + struct.pack("<B4xQ", 0 if text in prices else REFUSED, prices.get(text, 0))
+
+
+def section(name, texts, prices):
+    """Writes a data file, and answers the lines that the program prints of it."""
+    fail_unless(len(texts) <= MOST, f"{len(texts)} records in {name}")
+    (CRATE / "data").mkdir(parents=True, exist_ok=True)
+    (CRATE / "data" / name).write_bytes(b"".join(record(text, prices) for text in texts))
+    kinds = [text[0] if text in prices else REFUSED for text in texts]
+    counted = [(label, kinds.count(k)) for label, k in (("zero-coupon", ZERO), ("fixed coupon", FIXED), ("refused", REFUSED))]
+    return [name] + [f"{label}: {n} of {n}" for label, n in counted] + [f"records: {len(texts)}", "differences: 0"]
+
+
+def main():
+    all_bonds, all_terms = (list(dict.fromkeys(texts)) for texts in (bonds(), terms()))
+    prices = priced(all_bonds + all_terms)
+    fail_unless(all(text in prices for text in all_bonds), "a bond is refused")
+    fail_unless(len(all_bonds) >= 500 and len(all_terms) >= 300, "too few")
+    for example in EXAMPLES:
+        fail_unless(of_bits(prices[bond(*example[:4])]) == example[4], f"{example}: not the price of document 01")
+    lines = section("prices.bin", all_bonds, prices) + section("terms.bin", all_terms, prices)
+    (CRATE / "stdout").write_text("\n".join(lines) + "\n")
+    print("\n".join(lines))
+
+
+if __name__ == "__main__":
+    main()
