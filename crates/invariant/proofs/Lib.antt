@@ -22,3 +22,17 @@ pub mod Fixed
 pub mod PricesHandle
 pub mod PricesEvents
 pub mod Fresh
+pub mod ByKind
+pub mod TripLaws
+pub mod TripFrame
+pub mod TripCopies
+pub mod TripSend
+pub mod TripAnswers
+pub mod TripPools
+pub mod TripJob
+pub mod TripPlaces
+pub mod TripDeliver
+pub mod TripWithout
+pub mod TripDie
+pub mod TripNotice
+pub mod TripEvents
