@@ -6,7 +6,6 @@
 // Of an identifier the class is the expected verdict; then come the length of the text, and the text filled up with 0.
 // Of a term the class is 1 for a zero-coupon bond, 2 for a fixed coupon bond, 7 for a refusal; then come the 19 bytes of the term,
 // 4 bytes 0, and the bits of the expected price, little-endian, 0 for a refusal.
-use libc::STDOUT_FILENO;
 use pricer::Bond;
 use pricer::Terms;
 use term::Reading;
@@ -86,9 +85,7 @@ fn differs(record: &[u8], i: usize, content: Content) -> bool {
     if agrees(record, content) {
         return false;
     }
-    io::write_all(STDOUT_FILENO, b"record ");
-    io::print_decimal(STDOUT_FILENO, i as u64);
-    io::write_all(STDOUT_FILENO, b" differs\n");
+    report::difference(i as u64);
     true
 }
 
@@ -118,11 +115,12 @@ fn count(data: &[u8], content: Content, which: Which) -> u64 {
 
 // A line with the two counts of a class.
 fn print_class(data: &[u8], content: Content, label: &[u8], class: u8) {
-    io::write_all(STDOUT_FILENO, label);
-    io::print_decimal(STDOUT_FILENO, count(data, content, Which::Agreeing(class)));
-    io::write_all(STDOUT_FILENO, b" of ");
-    io::print_decimal(STDOUT_FILENO, count(data, content, Which::Expecting(class)));
-    io::write_all(STDOUT_FILENO, b"\n");
+    let agreeing = count(data, content, Which::Agreeing(class));
+    report::share(
+        label,
+        agreeing,
+        count(data, content, Which::Expecting(class)),
+    );
 }
 
 fn print_classes(data: &[u8], content: Content) {
@@ -140,30 +138,17 @@ fn print_classes(data: &[u8], content: Content) {
     }
 }
 
-fn print_line(label: &[u8], n: u64) {
-    io::write_all(STDOUT_FILENO, label);
-    io::print_decimal(STDOUT_FILENO, n);
-    io::write_all(STDOUT_FILENO, b"\n");
-}
-
 fn print_counts(data: &[u8], content: Content) {
     print_classes(data, content);
     let n = data.len() / 32;
-    print_line(b"records: ", n as u64);
-    print_line(b"differences: ", count(data, content, Which::Differing));
+    report::total(b"records: ", n as u64);
+    report::total(b"differences: ", count(data, content, Which::Differing));
 }
 
 fn compare(name: &[u8], content: Content) {
-    let fd = os::open_read(name);
-    if fd < 0 {
-        os::fail(name);
-        return;
-    }
     let mut buf = io::large_buffer();
-    let n = io::read_full(fd, &mut buf);
-    libc::close(fd);
-    io::write_all(STDOUT_FILENO, name);
-    io::write_all(STDOUT_FILENO, b"\n");
+    let n = report::load(name, &mut buf);
+    report::heading(name);
     print_counts(&buf[..n], content);
 }
 
