@@ -1,7 +1,7 @@
--- Cases on tests and on equations of numbers, and what a conjunction says of its parts. Assumes nothing.
+-- Cases on tests and on equations of numbers, and what a conjunction or a disjunction says of its parts. Assumes nothing.
 use mathlib.Core.Path.{_≡_, refl, sym}
 use mathlib.Core.Logic.{_≢_}
-use mathlib.Core.Bool.{Bool, true, false, cond, _&&_, true≢false}
+use mathlib.Core.Bool.{Bool, true, false, cond, not, _&&_, _||_, true≢false}
 use Prim.Native.Nat.{ℕ}
 use native.Mathlib.Decide.{ℕ-discrete}
 
@@ -40,3 +40,34 @@ and-false false = refl
 pub cond-same : {A : Type 0} (b : Bool) (x : A) → cond b x x ≡ x
 cond-same true x = refl
 cond-same false x = refl
+
+-- ---- disjunctions and conjunctions by their parts
+
+pub or-right : (a b : Bool) → b ≡ true → a || b ≡ true
+or-right true b e = refl
+or-right false b e = e
+
+pub or-elim : (a b : Bool) → a || b ≡ true → a ≡ false → b ≡ true
+or-elim true b e f = absurd (true≢false f)
+or-elim false b e f = e
+
+pub or-map : (a b c : Bool) → (b ≡ true → c ≡ true) → a || b ≡ true → a || c ≡ true
+or-map true b c f e = refl
+or-map false b c f e = f e
+
+pub and-both : (a b : Bool) → a ≡ true → b ≡ true → a && b ≡ true
+and-both a b e f = rw (e, f)
+
+pub and-three : (a b c : Bool) → a ≡ true → b ≡ true → c ≡ true → a && b && c ≡ true
+and-three a b c e f g = rw (e, f, g)
+
+-- a test that asks c where w holds, and d where it does not
+pub either-yes : (w c d : Bool) → w && c || not w && d ≡ true → w ≡ true → c ≡ true
+either-yes true true d e f = refl
+either-yes true false d e f = e
+either-yes false c d e f = absurd (true≢false (sym f))
+
+pub either-map : (w c d x : Bool) → (c ≡ true → x ≡ true) → w && c || not w && d ≡ true → w && x || not w && d ≡ true
+either-map true true d x f e = rw (f refl)
+either-map true false d x f e = absurd (true≢false (sym e))
+either-map false c d x f e = e

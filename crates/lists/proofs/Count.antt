@@ -6,8 +6,10 @@ use mathlib.Core.List.{List, [], _∷_, _++_}
 use Prim.Native.Nat.{ℕ, zero, suc, _+_, _≤_, _<_}
 use native.Mathlib.Nat.{not-suc-le-zero, le-of-suc-le-suc}
 use native.Mathlib.Omega.{arith}
-use lib.ListN.{length, getD, take, drop}
-use Rattle.lists.specs.Scan.{keep, without}
+use lib.ListN.{length, getD, take, drop, replicate}
+use lib.Dec.{ltb}
+use borrow.Author.Tests.{ltb-true, ltb-false}
+use Rattle.lists.specs.Scan.{keep, without, least, countTo}
 use Rattle.lists.proofs.Cases.{byBool, byEq}
 
 abbrev pub ind : Bool → ℕ
@@ -133,3 +135,77 @@ every-zip P Q (x ∷ xs) a b = ((a .0, b .0), every-zip P Q xs (a .1) (b .1))
 pub count-zero : {A : Type 0} (p : A → Bool) (xs : List A) → Every (λ x. p x ≡ false) xs → count p xs ≡ 0
 count-zero p [] h = refl
 count-zero p (x ∷ xs) h = omega (arith, ap ind (h .0), count-zero p xs (h .1))
+
+-- ---- a list by its indices
+
+pub every-index : {A : Type 0} (P : A → Type 0) (d : A) (l : List A) → ((i : ℕ) → i < length l → P (getD l i d)) → Every P l
+every-index P d [] h = tt
+every-index P d (x ∷ l) h = (h 0 (omega arith), every-index P d l (λ i k. h (suc i) (omega arith)))
+
+-- all of its elements are d
+pub same-all : {A : Type 0} (d : A) (l : List A) → ((i : ℕ) → i < length l → getD l i d ≡ d) → l ≡ replicate (length l) d
+same-all {A} d [] h = refl
+same-all {A} d (x ∷ l) h = rw (← same-all d l (λ i k. h (suc i) (omega arith))) (ap (λ (y : A). y ∷ l) (h 0 (omega arith)))
+
+-- at any index, also past the end
+pub getD-same : {A : Type 0} (n i : ℕ) (d : A) → getD (replicate n d) i d ≡ d
+getD-same zero i d = refl
+getD-same (suc n) zero d = refl
+getD-same (suc n) (suc i) d = getD-same n i d
+
+-- ---- counting the indices below n
+
+pub countTo-up : (p q : ℕ → Bool) (n : ℕ) → ((i : ℕ) → i < n → p i ≡ true → q i ≡ true) → countTo p n ≤ countTo q n
+unfolding countTo
+countTo-up p q zero h = omega arith
+countTo-up p q (suc n) h =
+    let i = countTo-up p q n (λ i k. h i (omega arith)) in
+    byBool (p n)
+    (λ e. let f = h n (omega arith) e in rw (e, f) (omega arith))
+    (λ e. byBool (q n) (λ f. rw (e, f) (omega arith)) (λ f. rw (e, f) i))
+
+pub countTo-same : (p q : ℕ → Bool) (n : ℕ) → ((i : ℕ) → i < n → p i ≡ q i) → countTo p n ≡ countTo q n
+unfolding countTo
+countTo-same p q zero h = refl
+countTo-same p q (suc n) h = rw (h n (omega arith), countTo-same p q n (λ i k. h i (omega arith)))
+
+-- q holds of one index more
+pub countTo-one : (p q : ℕ → Bool) (n b : ℕ) → b < n → p b ≡ false → q b ≡ true → ((i : ℕ) → i < n → i ≢ b → p i ≡ q i) → countTo q n ≡ suc (countTo p n)
+unfolding countTo
+countTo-one p q zero b l e f h = absurd (not-suc-le-zero l)
+countTo-one p q (suc n) b l e f h =
+    byEq n b
+    (λ d.
+    let e2 : p n ≡ false = rw d e in
+    let f2 : q n ≡ true = rw d f in
+    rw (e2, f2) (ap suc (sym (countTo-same p q n (λ i k. h i (omega arith) (omega arith))))))
+    (λ d.
+    let r = countTo-one p q n b (omega arith) e f (λ i k. h i (omega arith)) in
+    rw (h n (omega arith) d) (byBool (q n) (λ g. rw g (ap suc r)) (λ g. rw g r)))
+
+-- ---- the least index that passes a test passes it
+
+pub least-at : (p : ℕ → Bool) (n : ℕ) → least p n < n → p (least p n) ≡ true
+unfolding least
+least-at p zero h = absurd (not-suc-le-zero h)
+least-at p (suc n) h =
+    byBool (ltb (least p n) n)
+    (λ e. rw e (least-at p n (ltb-true _ _ e)))
+    (λ e. byBool (p n)
+    (λ d. rw (e, d) d)
+    (λ d. let z : suc n < suc n = rw (e, d) at h in absurd (omega arith)))
+
+-- no index before it does
+pub least-before : (p : ℕ → Bool) (n i : ℕ) → i < least p n → p i ≡ false
+unfolding least
+least-before p zero i h = absurd (not-suc-le-zero h)
+least-before p (suc n) i h =
+    byBool (ltb (least p n) n)
+    (λ e. let k : i < least p n = rw e at h in least-before p n i k)
+    (λ e.
+    let above : n ≤ least p n = ltb-false (least p n) n e in
+    byBool (p n)
+    (λ d. let k : i < n = rw (e, d) at h in least-before p n i (omega arith))
+    (λ d.
+    let k : i < suc n = rw (e, d) at h in
+    byEq i n (λ q. rw q d) (λ q. least-before p n i (omega arith))))

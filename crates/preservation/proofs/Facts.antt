@@ -1,0 +1,263 @@
+-- What the test of an element says, and how a new element meets it. M is the machine count, E the entry count, B the largest replica number allowed.
+-- Assumes nothing.
+use Prim.Native.Nat.{ℕ, _-_, _≤_, _<_, max}
+use mathlib.Core.Path.{_≡_, refl, sym, ap, _∙_}
+use mathlib.Core.Logic.{_≢_}
+use mathlib.Core.Bool.{true, false, not, _&&_, _||_, false≢true}
+use native.Mathlib.Omega.{arith}
+use borrow.Author.Tests.{eqb-true, leb-true, ltb-true, le-leb, lt-ltb, eq-eqb, ne-eqb}
+use lib.Dec.{eqb, leb, ltb}
+use Rattle.lists.proofs.Cases.{byBool, byEq, and-left, and-right, or-right, or-elim, and-both, and-three, either-yes}
+use Rattle.lists.proofs.Count.{least-at}
+use Rattle.table.specs.declared.Table.{Table}
+use Rattle.table.specs.declared.Job.{Job}
+use Rattle.table.specs.declared.Machine.{Machine}
+use Rattle.table.specs.declared.Message.{Message}
+use Rattle.table.specs.Views.{poolAt}
+use Rattle.table.specs.Messages.{lowest}
+use Rattle.table.specs.Parts.{opened, moved, placed, priced, reserve, release, running, waiting}
+use Rattle.elements.specs.Elements.{copyOk, emptyJob, admittedOk, placeOk, jobOk, emptyNode, reservedOk, runningOk, nodeOk, toldOk, cellOk, kindOk, endsOk, carriesOk, thiefOk, withCopy, withThief, toRoot, messageOk}
+use Rattle.validity.specs.Validity.{bound}
+
+-- ---- a copy
+
+module _ (E B j r : ℕ) (c : copyOk E B j r ≡ true) where
+  pub copy-job : j < E
+  copy-job = ltb-true _ _ (and-left (ltb j E) (leb 1 r) (and-left (ltb j E && leb 1 r) (leb r B) c))
+
+  pub copy-some : 1 ≤ r
+  copy-some = leb-true _ _ (and-right (ltb j E) (leb 1 r) (and-left (ltb j E && leb 1 r) (leb r B) c))
+
+  pub copy-most : r ≤ B
+  copy-most = leb-true _ _ (and-right (ltb j E && leb 1 r) (leb r B) c)
+
+pub copy-is : (E B j r : ℕ) → j < E → 1 ≤ r → r ≤ B → copyOk E B j r ≡ true
+copy-is E B j r a b c = rw (lt-ltb j E a, le-leb 1 r b, le-leb r B c)
+
+pub bound-pos : (t : Table) → 1 ≤ bound t
+unfolding bound
+bound-pos t = omega arith
+
+-- ---- a message in flight
+
+module _ (M E B : ℕ) (x : Message) (g : messageOk M E B x ≡ true) where
+  three : kindOk x && endsOk M x && carriesOk E B x ≡ true
+  three = and-left (kindOk x && endsOk M x && carriesOk E B x) (thiefOk M x) g
+
+  two : kindOk x && endsOk M x ≡ true
+  two = and-left (kindOk x && endsOk M x) (carriesOk E B x) three
+
+  ends : ltb (x .from) M && ltb (x .to) M ≡ true
+  ends = and-left (ltb (x .from) M && ltb (x .to) M) (not (toRoot (x .kind)) || eqb (x .to) 0) (and-right (kindOk x) (endsOk M x) two)
+
+  kinds : leb 1 (x .kind) && leb (x .kind) 9 ≡ true
+  kinds = and-left (leb 1 (x .kind) && leb (x .kind) 9) (eqb (x .kind) 9 || eqb (x .price) 0) (and-left (kindOk x) (endsOk M x) two)
+
+  pub kind-some : 1 ≤ x .kind
+  kind-some = leb-true _ _ (and-left (leb 1 (x .kind)) (leb (x .kind) 9) kinds)
+
+  pub kind-most : x .kind ≤ 9
+  kind-most = leb-true _ _ (and-right (leb 1 (x .kind)) (leb (x .kind) 9) kinds)
+
+  pub from-in : x .from < M
+  from-in = ltb-true _ _ (and-left (ltb (x .from) M) (ltb (x .to) M) ends)
+
+  pub to-in : x .to < M
+  to-in = ltb-true _ _ (and-right (ltb (x .from) M) (ltb (x .to) M) ends)
+
+  -- a REQ, ACK or RESULT is to the root
+  pub to-root : toRoot (x .kind) ≡ true → x .to ≡ 0
+  to-root w =
+      eqb-true _ _
+      (or-elim (not (toRoot (x .kind))) (eqb (x .to) 0)
+      (and-right (ltb (x .from) M && ltb (x .to) M) (not (toRoot (x .kind)) || eqb (x .to) 0) (and-right (kindOk x) (endsOk M x) two))
+      (ap not w))
+
+  pub copy-in : withCopy (x .kind) ≡ true → copyOk E B (x .job) (x .replica) ≡ true
+  copy-in w =
+      either-yes (withCopy (x .kind)) (copyOk E B (x .job) (x .replica)) (eqb (x .job) 0 && eqb (x .replica) 0)
+      (and-right (kindOk x && endsOk M x) (carriesOk E B x) three) w
+
+  pub thief-in : withThief (x .kind) ≡ true → x .thief < M
+  thief-in w =
+      ltb-true _ _
+      (either-yes (withThief (x .kind)) (ltb (x .thief) M) (eqb (x .thief) 0)
+      (and-right (kindOk x && endsOk M x && carriesOk E B x) (thiefOk M x) g) w)
+
+-- ---- a job
+
+module _ (M E B j : ℕ) (v : Job) where
+  -- one with a replica number is admitted
+  pub some-job : 1 ≤ v .replica → emptyJob v ≡ false
+  some-job h =
+      let a = eqb (v .state) 0 in
+      let b = eqb (v .replica) 0 in
+      let c = eqb (v .moving) 0 in
+      let d = eqb (v .holder) 0 in
+      let f = eqb (v .thief) 0 in
+      let g = eqb (v .price) 0 in
+      byBool (emptyJob v)
+      (λ e.
+      let z : v .replica ≡ 0 = eqb-true _ _ (and-right a b (and-left (a && b) c (and-left (a && b && c) d (and-left (a && b && c && d) f (and-left (a && b && c && d && f) g e))))) in
+      absurd (omega arith))
+      (λ e. e)
+
+  -- so is one that is open or priced
+  pub state-job : v .state ≢ 0 → emptyJob v ≡ false
+  state-job h = rw (ne-eqb (v .state) 0 h)
+
+  -- one that is not admitted has no replica number
+  pub none-job : emptyJob v ≡ true → v .replica ≡ 0
+  none-job e = byEq (v .replica) 0 (λ d. d) (λ d. absurd (false≢true (sym (some-job (omega arith)) ∙ e)))
+
+  module _ (g : jobOk M E B j v ≡ true) (n : emptyJob v ≡ false) where
+    whole : admittedOk v && copyOk E B j (v .replica) && placeOk M v ≡ true
+    whole = or-elim (emptyJob v) (admittedOk v && copyOk E B j (v .replica) && placeOk M v) g n
+
+    front : admittedOk v && copyOk E B j (v .replica) ≡ true
+    front = and-left (admittedOk v && copyOk E B j (v .replica)) (placeOk M v) whole
+
+    pub job-copy : copyOk E B j (v .replica) ≡ true
+    job-copy = and-right (admittedOk v) (copyOk E B j (v .replica)) front
+
+    pub job-place : placeOk M v ≡ true
+    job-place = and-right (admittedOk v && copyOk E B j (v .replica)) (placeOk M v) whole
+
+    pub job-moved : (f t : ℕ) → f < M → t < M → jobOk M E B j (moved v f t) ≡ true
+    unfolding moved
+    job-moved f t a b = or-right (emptyJob (moved v f t)) _ (and-both (admittedOk v && copyOk E B j (v .replica)) _ front (rw (lt-ltb f M a, lt-ltb t M b)))
+
+    pub job-placed : (f : ℕ) → f < M → jobOk M E B j (placed v f) ≡ true
+    unfolding placed
+    job-placed f a = or-right (emptyJob (placed v f)) _ (and-both (admittedOk v && copyOk E B j (v .replica)) _ front (rw (lt-ltb f M a)))
+
+    pub job-priced : (p : ℕ) → jobOk M E B j (priced v p) ≡ true
+    unfolding priced
+    job-priced p = or-right (emptyJob (priced v p)) _ (and-both (copyOk E B j (v .replica)) (placeOk M v) job-copy job-place)
+
+pub job-opened : (M E B j r : ℕ) → 0 < M → copyOk E B j r ≡ true → jobOk M E B j (opened r) ≡ true
+unfolding opened
+job-opened M E B j r a c = rw (c, lt-ltb 0 M a)
+
+-- ---- a machine
+
+-- one that is not alive is empty
+pub node-dead : (M E B m : ℕ) (n : Machine) → nodeOk M E B m n ≡ true → n .alive ≢ 1 → emptyNode n ≡ true
+node-dead M E B m n g d =
+    let a = ltb m M in
+    let b = eqb (n .alive) 1 in
+    let w = leb (n .waits) M in
+    let r = reservedOk M E B n in
+    let u = runningOk E B n in
+    byBool (emptyNode n) (λ e. e)
+    (λ e. absurd (d (eqb-true (n .alive) 1 (and-right a b (and-left (a && b) w (and-left (a && b && w) r (and-left (a && b && w && r) u (or-elim (emptyNode n) _ g e))))))))
+
+module _ (M E B m : ℕ) (n : Machine) (g : nodeOk M E B m n ≡ true) (al : n .alive ≡ 1) where
+  full : ltb m M && eqb (n .alive) 1 && leb (n .waits) M && reservedOk M E B n && runningOk E B n ≡ true
+  full = or-elim (emptyNode n) _ g (rw (ne-eqb (n .alive) 0 (λ e. omega arith)))
+
+  runs : runningOk E B n ≡ true
+  runs = and-right (ltb m M && eqb (n .alive) 1 && leb (n .waits) M && reservedOk M E B n) (runningOk E B n) full
+
+  rest : ltb m M && eqb (n .alive) 1 && leb (n .waits) M && reservedOk M E B n ≡ true
+  rest = and-left (ltb m M && eqb (n .alive) 1 && leb (n .waits) M && reservedOk M E B n) (runningOk E B n) full
+
+  reserved : reservedOk M E B n ≡ true
+  reserved = and-right (ltb m M && eqb (n .alive) 1 && leb (n .waits) M) (reservedOk M E B n) rest
+
+  head : ltb m M && eqb (n .alive) 1 && leb (n .waits) M ≡ true
+  head = and-left (ltb m M && eqb (n .alive) 1 && leb (n .waits) M) (reservedOk M E B n) rest
+
+  is : ltb m M && eqb (n .alive) 1 ≡ true
+  is = and-left (ltb m M && eqb (n .alive) 1) (leb (n .waits) M) head
+
+  pub node-in : m < M
+  node-in = ltb-true _ _ (and-left (ltb m M) (eqb (n .alive) 1) is)
+
+  pub node-waits : n .waits ≤ M
+  node-waits = leb-true _ _ (and-right (ltb m M && eqb (n .alive) 1) (leb (n .waits) M) head)
+
+  -- the copy that is reserved, where there is one
+  held : n .«reserved_replica» ≢ 0 → copyOk E B (n .«reserved_job») (n .«reserved_replica») && ltb (n .«reserved_thief») M ≡ true
+  held h =
+      let a = eqb (n .«reserved_job») 0 in
+      let b = eqb (n .«reserved_replica») 0 in
+      let c = eqb (n .«reserved_thief») 0 in
+      or-elim (a && b && c) _ reserved
+      (byBool (a && b && c) (λ e. absurd (h (eqb-true _ _ (and-right a b (and-left (a && b) c e))))) (λ e. e))
+
+  pub reserved-copy : n .«reserved_replica» ≢ 0 → copyOk E B (n .«reserved_job») (n .«reserved_replica») ≡ true
+  reserved-copy h = and-left (copyOk E B (n .«reserved_job») (n .«reserved_replica»)) (ltb (n .«reserved_thief») M) (held h)
+
+  pub reserved-thief : n .«reserved_replica» ≢ 0 → n .«reserved_thief» < M
+  reserved-thief h = ltb-true _ _ (and-right (copyOk E B (n .«reserved_job») (n .«reserved_replica»)) (ltb (n .«reserved_thief») M) (held h))
+
+  -- the copy that runs, where there is one
+  pub running-copy : n .«running_replica» ≢ 0 → copyOk E B (n .«running_job») (n .«running_replica») ≡ true
+  running-copy h =
+      let a = eqb (n .«running_job») 0 in
+      let b = eqb (n .«running_replica») 0 in
+      or-elim (a && b) _ runs (byBool (a && b) (λ e. absurd (h (eqb-true _ _ (and-right a b e)))) (λ e. e))
+
+  pub node-reserve : (j r th : ℕ) → copyOk E B j r ≡ true → th < M → nodeOk M E B m (reserve n j r th) ≡ true
+  unfolding reserve
+  node-reserve j r th c h =
+      or-right (emptyNode (reserve n j r th)) _
+      (and-three (ltb m M && eqb (n .alive) 1 && leb (n .waits) M) (reservedOk M E B (reserve n j r th)) (runningOk E B n) head
+      (or-right (eqb j 0 && eqb r 0 && eqb th 0) _ (and-both (copyOk E B j r) (ltb th M) c (lt-ltb th M h))) runs)
+
+  pub node-release : nodeOk M E B m (release n) ≡ true
+  unfolding release
+  node-release = or-right (emptyNode (release n)) _ (and-three (ltb m M && eqb (n .alive) 1 && leb (n .waits) M) _ (runningOk E B n) head refl runs)
+
+  pub node-waiting : (w : ℕ) → w ≤ M → nodeOk M E B m (waiting n w) ≡ true
+  unfolding waiting
+  node-waiting w h =
+      let a = ltb m M && eqb (n .alive) 1 in
+      or-right (emptyNode (waiting n w)) _
+      (and-three (a && leb w M) (reservedOk M E B n) (runningOk E B n) (and-both a (leb w M) is (le-leb w M h)) reserved runs)
+
+  pub node-running : (j r : ℕ) → copyOk E B j r ≡ true → nodeOk M E B m (running n j r) ≡ true
+  unfolding running
+  node-running j r c =
+      or-right (emptyNode (running n j r)) _
+      (and-both (ltb m M && eqb (n .alive) 1 && leb (n .waits) M && reservedOk M E B n) _ rest (or-right (eqb j 0 && eqb r 0) _ c))
+
+  pub node-idle : nodeOk M E B m (running n 0 0) ≡ true
+  unfolding running
+  node-idle =
+      or-right (emptyNode (running n 0 0)) _
+      (and-both (ltb m M && eqb (n .alive) 1 && leb (n .waits) M && reservedOk M E B n) _ rest refl)
+
+-- ---- a told flag
+
+-- who is told of is not alive
+pub told-dead : (M al m d x : ℕ) → toldOk M al m d x ≡ true → x ≢ 0 → al ≡ 0
+told-dead M al m d x g h = eqb-true _ _ (and-right (eqb x 1 && ltb m M && ltb d M) (eqb al 0) (or-elim (eqb x 0) _ g (ne-eqb x 0 h)))
+
+-- ---- a pool's cell
+
+module _ (E B al j x : ℕ) (g : cellOk E B al j x ≡ true) where
+  pub cell-copy : x ≢ 0 → copyOk E B j x ≡ true
+  cell-copy h = and-right (eqb al 1) (copyOk E B j x) (or-elim (eqb x 0) _ g (ne-eqb x 0 h))
+
+  pub cell-alive : x ≢ 0 → al ≡ 1
+  cell-alive h = eqb-true _ _ (and-left (eqb al 1) (copyOk E B j x) (or-elim (eqb x 0) _ g (ne-eqb x 0 h)))
+
+  pub cell-most : x ≤ B
+  cell-most = byEq x 0 (λ e. omega arith) (λ e. copy-most E B j x (cell-copy e))
+
+  -- the larger of it and a copy
+  pub cell-enter : (q : ℕ) → al ≡ 1 → copyOk E B j q ≡ true → cellOk E B al j (max x q) ≡ true
+  cell-enter q e c =
+      let a = copy-some E B j q c in
+      let b = copy-most E B j q c in
+      let d = cell-most in
+      or-right (eqb (max x q) 0) _ (and-both (eqb al 1) _ (eq-eqb al 1 e) (copy-is E B j (max x q) (copy-job E B j q c) (omega arith) (omega arith)))
+
+-- the lowest job of a pool is in it
+pub lowest-in : (t : Table) (m : ℕ) → lowest t m < 64 → poolAt t m (lowest t m) ≢ 0
+unfolding lowest
+lowest-in t m h e =
+    let z : not (eqb (poolAt t m (lowest t m)) 0) ≡ true = least-at (λ j. not (eqb (poolAt t m j) 0)) 64 h in
+    false≢true (sym (ap not (eq-eqb _ _ e)) ∙ z)

@@ -1,0 +1,4 @@
+pub mod Ok
+pub mod Facts
+pub mod Updates
+pub mod Told

@@ -1,0 +1,212 @@
+-- The table passes check 9, as facts about its parts, each the test of one element. Both ways: a table that passes has them, and one that has them passes.
+-- Assumes nothing.
+use Prim.Native.Nat.{ℕ, _+_, _-_, _≤_, _<_}
+use mathlib.Core.Path.{_≡_, sym, ap, _∙_}
+use mathlib.Core.Bool.{Bool, true, _&&_}
+use mathlib.Core.List.{List, _++_}
+use native.Mathlib.Omega.{arith}
+use borrow.Author.Tests.{eqb-true, leb-true, leb-false, le-leb, lt-leb}
+use lib.Dec.{eqb, leb}
+use lib.ListN.{length, getD, take, drop, replicate, length-drop, take-append-drop}
+use lib.Seq.{getD-drop, getD-append-add, length-take-le}
+use Rattle.lists.specs.Scan.{padTo}
+use Rattle.lists.proofs.Scans.{all-at}
+use Rattle.lists.proofs.Keeps.{all-intro}
+use Rattle.lists.proofs.Cases.{byBool, and-left, and-right}
+use Rattle.lists.proofs.Count.{Every, every-at, every-index, same-all, getD-same}
+use Rattle.table.specs.declared.Table.{Table}
+use Rattle.table.specs.declared.Message.{Message}
+use Rattle.table.specs.Views.{noMessage, bondAt, jobAt, nodeAt, poolAt, toldAt, messageAt, flight}
+use Rattle.table.proofs.Views.{Sized, length-flight}
+use Rattle.table.proofs.Messages.{Padded, message-flight}
+use Rattle.elements.specs.Elements.{bondOk, jobOk, nodeOk, toldOk, cellOk, messageOk, emptyMessage, slotOk}
+use Rattle.validity.specs.Validity.{sizesOk, rootOk, bound, bondsOk, jobsOk, nodesOk, toldRow, toldsOk, poolRow, poolsOk, messagesOk, tableOk}
+
+-- a message in flight: its receiver is alive, and its parts are in their ranges
+abbrev pub inFlightOk : Table → Message → Bool
+inFlightOk t x = eqb (nodeAt t (x .to) .alive) 1 && messageOk (t .machines) (t .entries) (bound t) x
+
+pub record Ok (t : Table) : Type 0 where
+  pub sizes : sizesOk t ≡ true
+  pub bond : (j : ℕ) → j < 64 → bondOk (t .entries) j (bondAt t j) ≡ true
+  pub job : (j : ℕ) → j < 64 → jobOk (t .machines) (t .entries) (bound t) j (jobAt t j) ≡ true
+  pub node : (m : ℕ) → m < 16 → nodeOk (t .machines) (t .entries) (bound t) m (nodeAt t m) ≡ true
+  pub pool : (m j : ℕ) → m < 16 → j < 64 → cellOk (t .entries) (bound t) (nodeAt t m .alive) j (poolAt t m j) ≡ true
+  pub messages : Every (λ x. inFlightOk t x ≡ true) (flight t)
+  pub padded : Padded t
+  pub root : rootOk t ≡ true
+  pub told : (m d : ℕ) → m < 16 → d < 16 → toldOk (t .machines) (nodeAt t d .alive) m d (toldAt t m d) ≡ true
+
+-- ---- a message whose parts are all 0 is the empty one
+
+unfoldable made : ℕ → ℕ → ℕ → ℕ → ℕ → ℕ → ℕ → Message
+made a b c d f g h = record { kind = a; from = b; to = c; job = d; replica = f; thief = g; price = h }
+
+empty-made : (m : Message) → emptyMessage m ≡ true → made (m .kind) (m .from) (m .to) (m .job) (m .replica) (m .thief) (m .price) ≡ made 0 0 0 0 0 0 0
+empty-made m e =
+    let a = eqb (m .kind) 0 in
+    let b = eqb (m .from) 0 in
+    let c = eqb (m .to) 0 in
+    let d = eqb (m .job) 0 in
+    let f = eqb (m .replica) 0 in
+    let g = eqb (m .thief) 0 in
+    let h = eqb (m .price) 0 in
+    let e6 = and-left (a && b && c && d && f && g) h e in
+    let e5 = and-left (a && b && c && d && f) g e6 in
+    let e4 = and-left (a && b && c && d) f e5 in
+    let e3 = and-left (a && b && c) d e4 in
+    let e2 = and-left (a && b) c e3 in
+    let k1 : m .kind ≡ 0 = eqb-true _ _ (and-left a b e2) in
+    let k2 : m .from ≡ 0 = eqb-true _ _ (and-right a b e2) in
+    let k3 : m .to ≡ 0 = eqb-true _ _ (and-right (a && b) c e3) in
+    let k4 : m .job ≡ 0 = eqb-true _ _ (and-right (a && b && c) d e4) in
+    let k5 : m .replica ≡ 0 = eqb-true _ _ (and-right (a && b && c && d) f e5) in
+    let k6 : m .thief ≡ 0 = eqb-true _ _ (and-right (a && b && c && d && f) g e6) in
+    let k7 : m .price ≡ 0 = eqb-true _ _ (and-right (a && b && c && d && f && g) h e) in
+    cc
+
+empty-is : (m : Message) → emptyMessage m ≡ true → m ≡ noMessage
+unfolding made
+empty-is m e = empty-made m e
+
+-- ---- the slots against the list in flight and its padding
+
+abbrev slot : Table → ℕ → Bool
+slot t i = slotOk (t .machines) (t .entries) (bound t) (t .«in_flight») i (nodeAt t (messageAt t i .to) .alive) (messageAt t i)
+
+module _ (t : Table) (s : Sized t) where
+  from-slots : messagesOk t (bound t) ≡ true → Every (λ x. inFlightOk t x ≡ true) (flight t)
+  unfolding messagesOk
+  from-slots e =
+      let n = length-flight t s in
+      every-index (λ x. inFlightOk t x ≡ true) noMessage (flight t) (λ i h.
+      let l : i < t .«in_flight» = omega arith in
+      let c : slot t i ≡ true = all-at (slot t) 128 i e (omega arith) in
+      let g : inFlightOk t (messageAt t i) ≡ true = rw (lt-leb (t .«in_flight») i l) at c in
+      rw (message-flight t s i l) g)
+
+  from-empty : messagesOk t (bound t) ≡ true → Padded t
+  unfolding messagesOk Padded padTo flight messageAt
+  from-empty e =
+      let n = t .«in_flight» in
+      let d = length-drop n (t .messages) in
+      let f = length-take-le n (t .messages) (omega arith) in
+      let r : drop n (t .messages) ≡ replicate (length (drop n (t .messages))) noMessage =
+      same-all noMessage (drop n (t .messages)) (λ i h.
+      let c : slot t (n + i) ≡ true = all-at (slot t) 128 (n + i) e (omega arith) in
+      let g : emptyMessage (getD (t .messages) (n + i) noMessage) ≡ true = rw (le-leb n (n + i) (omega arith)) at c in
+      getD-drop n (t .messages) i noMessage ∙ empty-is (getD (t .messages) (n + i) noMessage) g) in
+      let q : length (drop n (t .messages)) ≡ 128 - length (take n (t .messages)) = omega arith in
+      sym (take-append-drop n (t .messages)) ∙ ap (λ (l : List Message). take n (t .messages) ++ l) (r ∙ ap (λ (k : ℕ). replicate k noMessage) q)
+
+module _ (t : Table) (s : Sized t) (m : Every (λ x. inFlightOk t x ≡ true) (flight t)) (p : Padded t) where
+  slot-past : (i : ℕ) → t .«in_flight» ≤ i → messageAt t i ≡ noMessage
+  unfolding messageAt Padded padTo
+  slot-past i h =
+      let n = length-flight t s in
+      let q : i ≡ length (flight t) + (i - length (flight t)) = omega arith in
+      ap (λ (l : List Message). getD l i noMessage) p
+      ∙ ap (λ (k : ℕ). getD (flight t ++ replicate (128 - length (flight t)) noMessage) k noMessage) q
+      ∙ getD-append-add (flight t) (replicate (128 - length (flight t)) noMessage) (i - length (flight t)) noMessage
+      ∙ getD-same (128 - length (flight t)) (i - length (flight t)) noMessage
+
+  to-slots : messagesOk t (bound t) ≡ true
+  unfolding messagesOk
+  to-slots = all-intro (slot t) 128 (λ i h.
+      let n = length-flight t s in
+      byBool (leb (t .«in_flight») i)
+      (λ e. rw (e, slot-past i (leb-true _ _ e)))
+      (λ e.
+      let l : i < t .«in_flight» = leb-false _ _ e in
+      let g : inFlightOk t (getD (flight t) i noMessage) ≡ true = every-at (λ x. inFlightOk t x ≡ true) (flight t) i noMessage (omega arith) m in
+      rw e (rw (message-flight t s i l) at g)))
+
+-- ---- both ways
+
+-- the eight tests of `tableOk`, one by one
+pub record Tests (t : Table) : Type 0 where
+  pub sizes : sizesOk t ≡ true
+  pub bonds : bondsOk t ≡ true
+  pub jobs : jobsOk t (bound t) ≡ true
+  pub nodes : nodesOk t (bound t) ≡ true
+  pub pools : poolsOk t (bound t) ≡ true
+  pub messages : messagesOk t (bound t) ≡ true
+  pub root : rootOk t ≡ true
+  pub tolds : toldsOk t ≡ true
+
+apart : (a b c d f g h i : Bool) → a && b && c && d && f && g && h && i ≡ true
+    → (a ≡ true) × (b ≡ true) × (c ≡ true) × (d ≡ true) × (f ≡ true) × (g ≡ true) × (h ≡ true) × (i ≡ true)
+apart a b c d f g h i e =
+    let e7 = and-left (a && b && c && d && f && g && h) i e in
+    let e6 = and-left (a && b && c && d && f && g) h e7 in
+    let e5 = and-left (a && b && c && d && f) g e6 in
+    let e4 = and-left (a && b && c && d) f e5 in
+    let e3 = and-left (a && b && c) d e4 in
+    let e2 = and-left (a && b) c e3 in
+    (and-left a b e2, and-right a b e2, and-right (a && b) c e3, and-right (a && b && c) d e4, and-right (a && b && c && d) f e5, and-right (a && b && c && d && f) g e6, and-right (a && b && c && d && f && g) h e7, and-right (a && b && c && d && f && g && h) i e)
+
+together : (a b c d f g h i : Bool) → a ≡ true → b ≡ true → c ≡ true → d ≡ true → f ≡ true → g ≡ true → h ≡ true → i ≡ true → a && b && c && d && f && g && h && i ≡ true
+together a b c d f g h i e1 e2 e3 e4 e5 e6 e7 e8 = cc
+
+pub tests : (t : Table) → tableOk t ≡ true → Tests t
+unfolding tableOk
+tests t e =
+    let p = apart (sizesOk t) (bondsOk t) (jobsOk t (bound t)) (nodesOk t (bound t)) (poolsOk t (bound t)) (messagesOk t (bound t)) (rootOk t) (toldsOk t) e in
+    record { sizes = p .0; bonds = p .1; jobs = p .2; nodes = p .3; pools = p .4; messages = p .5; root = p .6; tolds = p .7 }
+
+pub joined : (t : Table) → Tests t → tableOk t ≡ true
+unfolding tableOk
+joined t p =
+    together (sizesOk t) (bondsOk t) (jobsOk t (bound t)) (nodesOk t (bound t)) (poolsOk t (bound t)) (messagesOk t (bound t)) (rootOk t) (toldsOk t)
+    (p .sizes) (p .bonds) (p .jobs) (p .nodes) (p .pools) (p .messages) (p .root) (p .tolds)
+
+module _ (t : Table) (s : Sized t) where
+  pub ok : tableOk t ≡ true → Ok t
+  unfolding bondsOk jobsOk nodesOk toldsOk toldRow poolsOk poolRow
+  ok e =
+      let p = tests t e in
+      record {
+        sizes = p .sizes;
+        bond = λ j h. all-at (λ j. bondOk (t .entries) j (bondAt t j)) 64 j (p .bonds) h;
+        job = λ j h. all-at (λ j. jobOk (t .machines) (t .entries) (bound t) j (jobAt t j)) 64 j (p .jobs) h;
+        node = λ m h. all-at (λ m. nodeOk (t .machines) (t .entries) (bound t) m (nodeAt t m)) 16 m (p .nodes) h;
+        pool = λ m j h k. all-at (λ j. cellOk (t .entries) (bound t) (nodeAt t m .alive) j (poolAt t m j)) 64 j (all-at (poolRow t (bound t)) 16 m (p .pools) h) k;
+        messages = from-slots t s (p .messages);
+        padded = from-empty t s (p .messages);
+        root = p .root;
+        told = λ m d h k. all-at (λ d. toldOk (t .machines) (nodeAt t d .alive) m d (toldAt t m d)) 16 d (all-at (toldRow t) 16 m (p .tolds) h) k;
+      }
+
+  pub passes : Ok t → tableOk t ≡ true
+  unfolding bondsOk jobsOk nodesOk toldsOk toldRow poolsOk poolRow
+  passes o = joined t record {
+    sizes = o .sizes;
+    bonds = all-intro (λ j. bondOk (t .entries) j (bondAt t j)) 64 (o .bond);
+    jobs = all-intro (λ j. jobOk (t .machines) (t .entries) (bound t) j (jobAt t j)) 64 (o .job);
+    nodes = all-intro (λ m. nodeOk (t .machines) (t .entries) (bound t) m (nodeAt t m)) 16 (o .node);
+    pools = all-intro (poolRow t (bound t)) 16 (λ m h. all-intro (λ j. cellOk (t .entries) (bound t) (nodeAt t m .alive) j (poolAt t m j)) 64 (λ j k. o .pool m j h k));
+    messages = to-slots t s (o .messages) (o .padded);
+    root = o .root;
+    tolds = all-intro (toldRow t) 16 (λ m h. all-intro (λ d. toldOk (t .machines) (nodeAt t d .alive) m d (toldAt t m d)) 16 (λ d k. o .told m d h k));
+  }
+
+-- ---- the counts
+
+module _ (t : Table) (e : sizesOk t ≡ true) where
+  three : leb 2 (t .machines) && leb (t .machines) 16 && leb (t .entries) 64 ≡ true
+  three = and-left (leb 2 (t .machines) && leb (t .machines) 16 && leb (t .entries) 64) (leb (t .«in_flight») 128) e
+
+  two : leb 2 (t .machines) && leb (t .machines) 16 ≡ true
+  two = and-left (leb 2 (t .machines) && leb (t .machines) 16) (leb (t .entries) 64) three
+
+  pub machines-some : 2 ≤ t .machines
+  machines-some = leb-true _ _ (and-left (leb 2 (t .machines)) (leb (t .machines) 16) two)
+
+  pub machines-most : t .machines ≤ 16
+  machines-most = leb-true _ _ (and-right (leb 2 (t .machines)) (leb (t .machines) 16) two)
+
+  pub entries-most : t .entries ≤ 64
+  entries-most = leb-true _ _ (and-right (leb 2 (t .machines) && leb (t .machines) 16) (leb (t .entries) 64) three)
+
+  pub used-most : t .«in_flight» ≤ 128
+  used-most = leb-true _ _ (and-right (leb 2 (t .machines) && leb (t .machines) 16 && leb (t .entries) 64) (leb (t .«in_flight») 128) e)
