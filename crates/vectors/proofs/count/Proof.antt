@@ -1,18 +1,18 @@
--- `isin_vectors::count` is safe and ends. The loop's invariant: the n records lie within the data, and no more are counted than are passed.
+-- `vectors::count` is safe and ends. The loop's invariant: the n records lie within the data, and no more are counted than are passed.
 -- The measure is the number of records left. Assumes nothing.
 use borrow.Author.Needs.{needs}
 use Prim.Native.Nat.{_≤_, _*_, _-_}
 use lib.ListN.{length}
 use mathlib.Core.Logic.{⊎-elim}
 use native.Mathlib.Omega.{arith}
-use Rattle.isin_vectors.proofs.count.Statement.{statement}
-use Rattle.isin_vectors.proofs.count.Tie as tie
+use Rattle.vectors.proofs.count.Statement.{statement}
+use Rattle.vectors.proofs.count.Tie as tie
 
 abbrev Inv-loop : tie.InvT-loop
-Inv-loop «data» which n total₀ i₀ total i = (16 * n ≤ length «data») × (i ≤ n) × (total ≤ i)
+Inv-loop «data» content which n total₀ i₀ total i = (32 * n ≤ length «data») × (i ≤ n) × (total ≤ i)
 
 abbrev μ-loop : tie.MeasureT-loop
-μ-loop «data» which n total₀ i₀ total i = n - i
+μ-loop «data» content which n total₀ i₀ total i = n - i
 
 loop-holds : tie.Need-loop-holds Inv-loop μ-loop
 loop-holds c = search needs
