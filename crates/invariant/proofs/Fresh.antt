@@ -1,16 +1,14 @@
 -- "A table as opened is fresh: every machine alive and told of nothing, no job admitted, no copy, wait or message." Such a table satisfies the invariant.
 -- Assumes nothing.
-use mathlib.Core.Path.{_≡_, refl, sym, ap, _∙_}
+use mathlib.Core.Path.{_≡_, sym, ap, _∙_}
 use mathlib.Core.Logic.{_≢_}
-use mathlib.Core.Bool.{Bool, true, false}
-use mathlib.Core.List.{List, []}
-use Prim.Native.Nat.{ℕ, _+_, _≤_, _<_}
+use mathlib.Core.List.{[]}
+use Prim.Native.Nat.{ℕ, _<_}
 use native.Mathlib.Omega.{arith}
-use Rattle.lists.proofs.Count.{ind, count, Every}
+use Rattle.lists.proofs.Count.{ind}
 use Rattle.table.specs.declared.Job.{Job}
-use Rattle.table.specs.declared.Message.{Message}
 use Rattle.table.specs.declared.Table.{Table}
-use Rattle.table.specs.Views.{noJob, jobAt, nodeAt, poolAt, toldAt, flight}
+use Rattle.table.specs.Views.{noJob, jobAt, nodeAt, poolAt, flight}
 use Rattle.table.proofs.Views.{Sized}
 use Rattle.preservation.proofs.Ok.{Ok}
 use Rattle.preservation.proofs.Passed.{facts}

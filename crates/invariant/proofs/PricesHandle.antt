@@ -1,13 +1,11 @@
 -- Clause X through the nine handlers, and so through Deliver: a price comes from a RESULT, and only Done sends one.
 -- Assumes nothing.
 use mathlib.Core.Path.{_≡_, refl, sym, ap, _∙_}
-use mathlib.Core.Logic.{_≢_}
-use mathlib.Core.Bool.{Bool, true, false, not, cond, _&&_, _||_}
-use mathlib.Core.List.{List, [], _∷_, _++_}
-use Prim.Native.Nat.{ℕ, _+_, _<_}
+use mathlib.Core.Bool.{not, _&&_, _||_}
+use mathlib.Core.List.{List, _∷_}
+use Prim.Native.Nat.{ℕ, _<_}
 use native.Mathlib.Omega.{arith}
 use lib.Dec.{eqb, leb}
-use borrow.Author.Tests.{eqb-true}
 use Rattle.pricer.specs.Price.{priceBits}
 use Rattle.lists.proofs.Cases.{byBool, byEq}
 use Rattle.lists.proofs.Count.{Every, every-append, every-map}
@@ -23,6 +21,7 @@ use Rattle.handlers.specs.Handlers.{noWork, grant, onFish, reply, onReq, onAuth
 use Rattle.events.specs.Events.{delivered}
 use Rattle.invariant.proofs.State.{Prices, RightPrice, Hand, Whole}
 use Rattle.invariant.proofs.Hand.{hand}
+use Rattle.invariant.proofs.ByKind.{by-kind}
 use Rattle.invariant.proofs.Flight.{Apart, sends, every-taken, takes}
 use Rattle.invariant.proofs.Frame.{Frame, frame-refl, frame-job, frame-node, frame-pool, frame-enter, frame-returned, job-enter}
 use Rattle.invariant.proofs.About.{alive-reserve, alive-release, alive-waiting, kind-message}
@@ -169,18 +168,9 @@ module _ (s : Table) (x : Message) (h : Hand s x) (p : PricesBy s s (flight s)) 
       (λ a. rw (a, onResult) p)
 
   right-handle : Right (handle s x)
-  unfolding handle
   right-handle =
-      byBool (eqb (x .kind) 1) (λ a. rw (a, handle) right-fish)
-      (λ a1. byBool (eqb (x .kind) 2) (λ a. rw (a1, a, handle) right-req)
-      (λ a2. byBool (eqb (x .kind) 3) (λ a. rw (a1, a2, a, handle) right-auth)
-      (λ a3. byBool (eqb (x .kind) 4) (λ a. rw (a1, a2, a3, a, handle) right-denied)
-      (λ a4. byBool (eqb (x .kind) 5) (λ a. rw (a1, a2, a3, a4, a, handle) right-obsolete)
-      (λ a5. byBool (eqb (x .kind) 6) (λ a. rw (a1, a2, a3, a4, a5, a, handle) right-schedule)
-      (λ a6. byBool (eqb (x .kind) 7) (λ a. rw (a1, a2, a3, a4, a5, a6, a, handle) right-ack)
-      (λ a7. byBool (eqb (x .kind) 8) (λ a. rw (a1, a2, a3, a4, a5, a6, a7, a, handle) right-nowork)
-      (λ a8. byBool (eqb (x .kind) 9) (λ a. rw (a1, a2, a3, a4, a5, a6, a7, a8, a, handle) (right-result (eqb-true _ _ a)))
-      (λ a9. rw (a1, a2, a3, a4, a5, a6, a7, a8, a9, handle) p)))))))))
+      by-kind (λ u. PricesBy s u (flight u)) s x (h .message .kind-least) (h .message .kind-most)
+      (λ e. right-fish) (λ e. right-req) (λ e. right-auth) (λ e. right-denied) (λ e. right-obsolete) (λ e. right-schedule) (λ e. right-ack) (λ e. right-nowork) right-result
 
 pub prices-handle : (s : Table) (x : Message) → Hand s x → Prices s (x ∷ flight s) → Prices (handle s x) (flight (handle s x))
 prices-handle s x h p =
