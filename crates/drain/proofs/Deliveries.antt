@@ -1,5 +1,5 @@
 -- At most 640 deliveries, as many as the messages in flight weigh: after them nothing is in flight.
--- Assumes what its parameter says: that a step keeps the invariant.
+-- Assumes nothing.
 use mathlib.Core.Path.{_≡_, refl, sym, ap, _∙_}
 use mathlib.Core.Logic.{_≢_}
 use mathlib.Core.List.{List, [], _∷_}
@@ -23,7 +23,7 @@ use Rattle.invariant.proofs.Fixed.{fixed-delivered}
 use Rattle.dispatcher.specs.Step.{stepOf}
 use Rattle.drain.proofs.Reach.{Reach, reach-here, reach-step}
 use Rattle.drain.proofs.Steps.{event, accepts-deliver}
-use Rattle.drain.proofs.Kept.{Keeps, kept, fixed-machines}
+use Rattle.drain.proofs.Kept.{kept, fixed-machines}
 use Rattle.drain.proofs.Weights.{weight, weightOf, weight-range, weight-most, Lighter, lighter}
 
 -- the root was told of every dead machine
@@ -69,22 +69,21 @@ module _ (t : Table) (w : Whole t) (h : 0 < t .«in_flight») where
       informed-same t (delivered t 0) (fixed-delivered (λ v. v .machines) fixed-machines t 0)
       (λ m. handled .alive m ∙ simp views) (λ m d. handled .told m d ∙ simp views)
 
-module _ (keeps : Keeps) where
-  pub deliveries : (n : ℕ) (t : Table) → Whole t → Informed t → weight (flight t) ≤ n → Reach Quiet t n
-  deliveries zero t w i h =
-      byEq (t .«in_flight») 0
-      (λ e. reach-here Quiet t 0 (record { whole = w; informed = i; empty = e }))
-      (λ e. absurd (omega (arith, first-weight t w (omega arith), weight-range (messageAt t 0 .kind) .0)))
-  deliveries (suc n) t w i h =
-      byEq (t .«in_flight») 0
-      (λ e. reach-here Quiet t (suc n) (record { whole = w; informed = i; empty = e }))
-      (λ e.
-      let some : 0 < t .«in_flight» = omega arith in
-      let x = messageAt t 0 in
-      let u = delivered t 0 in
-      let step : stepOf t (event 3 (x .from) (x .to)) ≡ accept u = accepts-deliver t w some in
-      reach-step Quiet t u (event 3 (x .from) (x .to)) n step refl
-      (deliveries n u (kept keeps t u (event 3 (x .from) (x .to)) w step) (next-informed t w some i) (omega (arith, next-lighter t w some))))
+pub deliveries : (n : ℕ) (t : Table) → Whole t → Informed t → weight (flight t) ≤ n → Reach Quiet t n
+deliveries zero t w i h =
+    byEq (t .«in_flight») 0
+    (λ e. reach-here Quiet t 0 (record { whole = w; informed = i; empty = e }))
+    (λ e. absurd (omega (arith, first-weight t w (omega arith), weight-range (messageAt t 0 .kind) .0)))
+deliveries (suc n) t w i h =
+    byEq (t .«in_flight») 0
+    (λ e. reach-here Quiet t (suc n) (record { whole = w; informed = i; empty = e }))
+    (λ e.
+    let some : 0 < t .«in_flight» = omega arith in
+    let x = messageAt t 0 in
+    let u = delivered t 0 in
+    let step : stepOf t (event 3 (x .from) (x .to)) ≡ accept u = accepts-deliver t w some in
+    reach-step Quiet t u (event 3 (x .from) (x .to)) n step refl
+    (deliveries n u (kept t u (event 3 (x .from) (x .to)) w step) (next-informed t w some i) (omega (arith, next-lighter t w some))))
 
-  pub deliveries-640 : (t : Table) → Whole t → Informed t → Reach Quiet t 640
-  deliveries-640 t w i = deliveries 640 t w i (omega (arith, weight-most (flight t), length-flight t (w .sized), w .sized .used))
+pub deliveries-640 : (t : Table) → Whole t → Informed t → Reach Quiet t 640
+deliveries-640 t w i = deliveries 640 t w i (omega (arith, weight-most (flight t), length-flight t (w .sized), w .sized .used))

@@ -1,6 +1,6 @@
 -- Once nothing is in flight: at most 32 events, Done and Deliver for each machine that runs a copy, leave nothing running; then at most 192, Start, Done and
 -- Deliver for each open job, leave no job open.
--- Assumes what its parameter says: that a step keeps the invariant.
+-- Assumes nothing.
 use mathlib.Core.Path.{_≡_, refl, sym, ap, _∙_}
 use mathlib.Core.Logic.{_≢_}
 use Prim.Native.Nat.{ℕ, zero, suc, _+_, _*_, _≤_, _<_}
@@ -19,7 +19,7 @@ use Rattle.invariant.proofs.Fixed.{fixed-started}
 use Rattle.dispatcher.specs.Step.{stepOf}
 use Rattle.drain.proofs.Reach.{Reach, reach-here, reach-step, reach-map, reach-loop}
 use Rattle.drain.proofs.Steps.{event, accepts-start}
-use Rattle.drain.proofs.Kept.{Keeps, kept, fixed-machines}
+use Rattle.drain.proofs.Kept.{kept, fixed-machines}
 use Rattle.drain.proofs.Deliveries.{Quiet, Informed, informed-same}
 use Rattle.drain.proofs.Results.{Finished, finishes}
 use Rattle.drain.proofs.Settled.{Pooled, settled}
@@ -31,8 +31,8 @@ pub record Resting (k : ℕ) (t : Table) : Type 0 where
   pub quiet : Quiet t
   pub rests : (m : ℕ) → m < k → nodeAt t m .«running_replica» ≡ 0
 
-rest-one : Keeps → (k : ℕ) (t : Table) → k < 16 → Resting k t → Reach (Resting (suc k)) t 2
-rest-one keeps k t kl h =
+rest-one : (k : ℕ) (t : Table) → k < 16 → Resting k t → Reach (Resting (suc k)) t 2
+rest-one k t kl h =
     byEq (nodeAt t k .«running_replica») 0
     (λ e. reach-here (Resting (suc k)) t 2 (record { quiet = h .quiet; rests = λ m l. byEq m k (λ d. rw d e) (λ d. h .rests m (omega arith)) }))
     (λ e. reach-map (Resting (suc k)) (Finished t k) t 2
@@ -40,10 +40,10 @@ rest-one keeps k t kl h =
       quiet = f .quiet;
       rests = λ m l. byEq m k (λ d. rw d (f .rests)) (λ d. ap (λ (n : Machine). n .«running_replica») (f .others m d) ∙ h .rests m (omega arith));
     })
-    (finishes keeps t k (h .quiet) kl e))
+    (finishes t k (h .quiet) kl e))
 
-pub resting : Keeps → (t : Table) → Quiet t → Reach (Resting 16) t 32
-resting keeps t q = reach-loop Resting 2 16 (rest-one keeps) t (record { quiet = q; rests = λ m l. absurd (omega arith) })
+pub resting : (t : Table) → Quiet t → Reach (Resting 16) t 32
+resting t q = reach-loop Resting 2 16 rest-one t (record { quiet = q; rests = λ m l. absurd (omega arith) })
 
 -- ---- the open jobs
 
@@ -83,8 +83,8 @@ module _ (t : Table) (a j : ℕ) (z : Sized t) (al : a < 16) where
   start-runs : (nodeAt (started t a j) a .«running_job» ≡ j) × (nodeAt (started t a j) a .«running_replica» ≡ poolAt t a j)
   start-runs = (ap (λ (n : Machine). n .«running_job») start-node ∙ unfold running in refl, ap (λ (n : Machine). n .«running_replica») start-node ∙ unfold running in refl)
 
-shut-open : Keeps → (k : ℕ) (t : Table) → k < 64 → Shut k t → jobAt t k .state ≡ 1 → Reach (Shut (suc k)) t 3
-shut-open keeps k t kl h o =
+shut-open : (k : ℕ) (t : Table) → k < 64 → Shut k t → jobAt t k .state ≡ 1 → Reach (Shut (suc k)) t 3
+shut-open k t kl h o =
     let q = h .resting .quiet in
     let w = q .whole in
     let a = jobAt t k .holder in
@@ -105,13 +105,13 @@ shut-open keeps k t kl h o =
           (λ d e. f .shut (ap (λ (i : ℕ). jobAt u i .state) (runs .0 ∙ sym d) ∙ e))
           (λ d e. h .shut j (omega arith) (sym (ap (λ (b : Job). b .state) (f .jobs j (λ p. d (p ∙ runs .0)) ∙ start-job t a k z al j)) ∙ e));
     })
-    (finishes keeps v a (start-quiet t a k z al (kept keeps t v (event 4 a k) w step) q) al (λ e. c .there (sym (runs .1) ∙ e))))
+    (finishes v a (start-quiet t a k z al (kept t v (event 4 a k) w step) q) al (λ e. c .there (sym (runs .1) ∙ e))))
 
-shut-one : Keeps → (k : ℕ) (t : Table) → k < 64 → Shut k t → Reach (Shut (suc k)) t 3
-shut-one keeps k t kl h =
+shut-one : (k : ℕ) (t : Table) → k < 64 → Shut k t → Reach (Shut (suc k)) t 3
+shut-one k t kl h =
     byEq (jobAt t k .state) 1
-    (shut-open keeps k t kl h)
+    (shut-open k t kl h)
     (λ e. reach-here (Shut (suc k)) t 3 (record { resting = h .resting; shut = λ j l. byEq j k (λ d. rw d e) (λ d. h .shut j (omega arith)) }))
 
-pub shut-all : Keeps → (t : Table) → Resting 16 t → Reach (Shut 64) t 192
-shut-all keeps t r = reach-loop Shut 3 64 (shut-one keeps) t (record { resting = r; shut = λ j l. absurd (omega arith) })
+pub shut-all : (t : Table) → Resting 16 t → Reach (Shut 64) t 192
+shut-all t r = reach-loop Shut 3 64 shut-one t (record { resting = r; shut = λ j l. absurd (omega arith) })

@@ -1,5 +1,5 @@
 -- At most 15 notices to the root: after them it was told of every dead machine of the table's machine count.
--- Assumes what its parameter says: that a step keeps the invariant.
+-- Assumes nothing.
 use mathlib.Core.Path.{_≡_, refl, sym, ap, _∙_}
 use mathlib.Core.Logic.{_≢_}
 use mathlib.Core.Bool.{Bool, true, cond}
@@ -23,7 +23,7 @@ use Rattle.invariant.proofs.Reissued.{node-reissue, told-reissue}
 use Rattle.dispatcher.specs.Step.{stepOf}
 use Rattle.drain.proofs.Reach.{Reach, reach-here, reach-step, reach-loop}
 use Rattle.drain.proofs.Steps.{event, accepts-notice}
-use Rattle.drain.proofs.Kept.{Keeps, kept, fixed-machines}
+use Rattle.drain.proofs.Kept.{kept, fixed-machines}
 
 -- ---- the table after a notice to the root
 
@@ -52,31 +52,30 @@ pub record Told (k : ℕ) (t : Table) : Type 0 where
 told-start : (t : Table) → Whole t → Told 0 t
 told-start t w = record { whole = w; told = λ d l m g. let z : d ≡ 0 = omega arith in absurd (g (ap (λ (i : ℕ). nodeAt t i .alive) z ∙ w .facts .root)) }
 
-module _ (keeps : Keeps) where
-  -- one machine more
-  one : (k : ℕ) (t : Table) → k < 15 → Told k t → Reach (Told (suc k)) t 1
-  one k t kl h =
-      let w = h .whole in
-      let b = suc k in
-      let here : ((d : ℕ) → d ≡ b → d < t .machines → nodeAt t d .alive ≢ 1 → toldAt t 0 d ≢ 0) → Reach (Told (suc k)) t 1 = λ f.
-      reach-here (Told (suc k)) t 1 (record { whole = w; told = λ d l. byEq d b (f d) (λ e. h .told d (omega arith)) }) in
-      byBool (ltb b (t .machines))
-      (λ c. let bl : b < t .machines = ltb-true b (t .machines) c in byEq (nodeAt t b .alive) 1
-      (λ e. here (λ d q l g. absurd (g (ap (λ (i : ℕ). nodeAt t i .alive) q ∙ e))))
-      (λ gone. byEq (toldAt t 0 b) 0
-      (λ e.
-      let u = noticed t 0 b in
-      let step : stepOf t (event 7 0 b) ≡ accept u = accepts-notice t w b bl gone e in
-      let same : u .machines ≡ t .machines = fixed-noticed (λ v. v .machines) fixed-machines t 0 b in
-      reach-step (Told (suc k)) t u (event 7 0 b) 0 step refl
-      (reach-here (Told (suc k)) u 0 (record {
-        whole = kept keeps t u (event 7 0 b) w step;
-        told = λ d l m g. byEq d b
-            (λ q. rw (q, told-noticed t b w (omega arith)) (λ z. omega arith))
-            (λ q. rw (told-noticed-other t b w d (omega arith) (omega arith) q) (h .told d (omega arith) (omega arith) (λ a. g (alive-noticed t b w d ∙ a))));
-      })))
-      (λ e. here (λ d q l g. rw q e))))
-      (λ c. let out : t .machines ≤ b = ltb-false b (t .machines) c in here (λ d q l. absurd (omega arith)))
+-- one machine more
+one : (k : ℕ) (t : Table) → k < 15 → Told k t → Reach (Told (suc k)) t 1
+one k t kl h =
+    let w = h .whole in
+    let b = suc k in
+    let here : ((d : ℕ) → d ≡ b → d < t .machines → nodeAt t d .alive ≢ 1 → toldAt t 0 d ≢ 0) → Reach (Told (suc k)) t 1 = λ f.
+    reach-here (Told (suc k)) t 1 (record { whole = w; told = λ d l. byEq d b (f d) (λ e. h .told d (omega arith)) }) in
+    byBool (ltb b (t .machines))
+    (λ c. let bl : b < t .machines = ltb-true b (t .machines) c in byEq (nodeAt t b .alive) 1
+    (λ e. here (λ d q l g. absurd (g (ap (λ (i : ℕ). nodeAt t i .alive) q ∙ e))))
+    (λ gone. byEq (toldAt t 0 b) 0
+    (λ e.
+    let u = noticed t 0 b in
+    let step : stepOf t (event 7 0 b) ≡ accept u = accepts-notice t w b bl gone e in
+    let same : u .machines ≡ t .machines = fixed-noticed (λ v. v .machines) fixed-machines t 0 b in
+    reach-step (Told (suc k)) t u (event 7 0 b) 0 step refl
+    (reach-here (Told (suc k)) u 0 (record {
+      whole = kept t u (event 7 0 b) w step;
+      told = λ d l m g. byEq d b
+          (λ q. rw (q, told-noticed t b w (omega arith)) (λ z. omega arith))
+          (λ q. rw (told-noticed-other t b w d (omega arith) (omega arith) q) (h .told d (omega arith) (omega arith) (λ a. g (alive-noticed t b w d ∙ a))));
+    })))
+    (λ e. here (λ d q l g. rw q e))))
+    (λ c. let out : t .machines ≤ b = ltb-false b (t .machines) c in here (λ d q l. absurd (omega arith)))
 
-  pub notices : (t : Table) → Whole t → Reach (Told 15) t 15
-  notices t w = reach-loop Told 1 15 (λ k u. one k u) t (told-start t w)
+pub notices : (t : Table) → Whole t → Reach (Told 15) t 15
+notices t w = reach-loop Told 1 15 (λ k u. one k u) t (told-start t w)

@@ -1,6 +1,6 @@
 -- Done and Deliver at a machine that runs a copy, with nothing else in flight: after these two events it runs none, its job is not open, and no other
 -- machine and no other job has changed.
--- Assumes what its parameter says: that a step keeps the invariant.
+-- Assumes nothing.
 use mathlib.Core.Path.{_≡_, refl, sym, ap, _∙_}
 use mathlib.Core.Logic.{_≢_}
 use mathlib.Core.Bool.{Bool, true, false, cond}
@@ -30,7 +30,7 @@ use Rattle.invariant.proofs.Fixed.{fixed-delivered, fixed-finished}
 use Rattle.dispatcher.specs.Step.{stepOf}
 use Rattle.drain.proofs.Reach.{Reach, reach-here, reach-step}
 use Rattle.drain.proofs.Steps.{event, accepts-deliver, accepts-done}
-use Rattle.drain.proofs.Kept.{Keeps, kept, fixed-machines}
+use Rattle.drain.proofs.Kept.{kept, fixed-machines}
 use Rattle.drain.proofs.Deliveries.{Quiet, Informed, informed-same, flight-empty}
 
 -- u is the table once machine a's running copy of t is priced
@@ -174,14 +174,14 @@ module _ (t : Table) (a : ℕ) (q : Quiet t) (al : a < 16) (runs : nodeAt t a .�
     }
 
 -- the two events
-pub finishes : Keeps → (t : Table) (a : ℕ) → Quiet t → a < 16 → nodeAt t a .«running_replica» ≢ 0 → Reach (Finished t a) t 2
-finishes keeps t a q al runs =
+pub finishes : (t : Table) (a : ℕ) → Quiet t → a < 16 → nodeAt t a .«running_replica» ≢ 0 → Reach (Finished t a) t 2
+finishes t a q al runs =
     let p = finished t a in
     let step : stepOf t (event 5 a 0) ≡ accept p = accepts-done t (q .whole) a al (lives t a q al runs) runs (omega (arith, q .empty)) in
-    let w : Whole p = kept keeps t p (event 5 a 0) (q .whole) step in
+    let w : Whole p = kept t p (event 5 a 0) (q .whole) step in
     let x = messageAt p 0 in
     let u = delivered p 0 in
     let next : stepOf p (event 3 (x .from) (x .to)) ≡ accept u = accepts-deliver p w (omega (arith, p-used t a q al runs w)) in
     reach-step (Finished t a) t p (event 5 a 0) 1 step refl
     (reach-step (Finished t a) p u (event 3 (x .from) (x .to)) 0 next refl
-    (reach-here (Finished t a) u 0 (u-finished t a q al runs w (kept keeps p u (event 3 (x .from) (x .to)) w next))))
+    (reach-here (Finished t a) u 0 (u-finished t a q al runs w (kept p u (event 3 (x .from) (x .to)) w next))))

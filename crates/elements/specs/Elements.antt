@@ -12,6 +12,7 @@ use Rattle.pricer.specs.Range.{inRange}
 use Rattle.table.specs.declared.Job.{Job}
 use Rattle.table.specs.declared.Message.{Message}
 use Rattle.table.specs.declared.Machine.{Machine}
+use Rattle.table.specs.Parts.{FISH, REQ, OBSOLETE, ACK, RESULT}
 
 -- ---- a copy
 
@@ -83,7 +84,7 @@ toldOk machines alive m d x = eqb x 0 || eqb x 1 && ltb m machines && ltb d mach
 abbrev pub cellOk : ℕ → ℕ → ℕ → ℕ → ℕ → Bool
 cellOk entries b alive j x = eqb x 0 || eqb alive 1 && copyOk entries b j x
 
--- ---- "up to 128 messages in flight": 1 FISH, 2 REQ, 3 AUTH, 4 DENIED, 5 OBSOLETE, 6 SCHEDULE, 7 ACK, 8 NOWORK, 9 RESULT
+-- ---- "up to 128 messages in flight"; the kinds are numbered FISH, REQ, AUTH, DENIED, OBSOLETE, SCHEDULE, ACK, NOWORK, RESULT from 1 to 9
 
 -- "unused slots are all 0"
 abbrev pub emptyMessage : Message → Bool
@@ -91,19 +92,19 @@ emptyMessage m = eqb (m .kind) 0 && eqb (m .from) 0 && eqb (m .to) 0 && eqb (m .
 
 -- REQ, AUTH, DENIED, OBSOLETE, SCHEDULE, ACK and RESULT carry job and replica
 abbrev pub withCopy : ℕ → Bool
-withCopy k = leb 2 k && leb k 7 || eqb k 9
+withCopy k = leb REQ k && leb k ACK || eqb k RESULT
 
 -- "REQ (job, replica, t)"; "AUTH, DENIED, OBSOLETE repeat job, replica and thief"
 abbrev pub withThief : ℕ → Bool
-withThief k = leb 2 k && leb k 5
+withThief k = leb REQ k && leb k OBSOLETE
 
 -- "a REQ, ACK or RESULT"
 abbrev pub toRoot : ℕ → Bool
-toRoot k = eqb k 2 || eqb k 7 || eqb k 9
+toRoot k = eqb k REQ || eqb k ACK || eqb k RESULT
 
 -- a kind; "RESULT carries job, replica and price", and no other kind a price
 abbrev pub kindOk : Message → Bool
-kindOk m = leb 1 (m .kind) && leb (m .kind) 9 && (eqb (m .kind) 9 || eqb (m .price) 0)
+kindOk m = leb FISH (m .kind) && leb (m .kind) RESULT && (eqb (m .kind) RESULT || eqb (m .price) 0)
 
 -- machine numbers in their range, and the root where the kind goes "to the root"
 abbrev pub endsOk : ℕ → Message → Bool

@@ -2,23 +2,21 @@
 -- Assumes nothing.
 use mathlib.Core.Path.{_≡_, refl, sym, ap, _∙_}
 use mathlib.Core.Logic.{_≢_}
-use mathlib.Core.Bool.{Bool, true, false, not, cond, _&&_, true≢false}
-use mathlib.Core.List.{List, [], _∷_, _++_}
-use Prim.Native.Nat.{ℕ, _+_, _<_}
+use mathlib.Core.Bool.{true, false, _&&_}
+use mathlib.Core.List.{_∷_}
+use Prim.Native.Nat.{ℕ, _+_}
 use native.Mathlib.Omega.{arith}
 use lib.Dec.{eqb}
-use borrow.Author.Tests.{eq-eqb, ne-eqb, eqb-true, eqb-false}
+use borrow.Author.Tests.{eq-eqb, ne-eqb, eqb-true}
 use Rattle.lists.proofs.Cases.{byBool, byEq, and-left, and-right}
 use Rattle.lists.proofs.Count.{ind, count}
-use Rattle.table.specs.declared.Machine.{Machine}
 use Rattle.table.specs.declared.Message.{Message}
 use Rattle.table.specs.declared.Table.{Table}
-use Rattle.table.specs.Views.{nodeAt, toldAt, flight, withNode, enter}
+use Rattle.table.specs.Views.{nodeAt, flight, withNode}
 use Rattle.table.specs.Messages.{send}
 use Rattle.table.specs.Parts.{copyIs, reserves, release, returned, message, REQ, SCHEDULE, NOWORK}
-use Rattle.table.proofs.Views.{Sized, node-same, node-other}
+use Rattle.table.proofs.Views.{node-same, node-other}
 use Rattle.handlers.specs.Handlers.{noWork, onAuth, onDenied, onObsolete}
-use Rattle.preservation.proofs.Sizes.{sized-enter}
 use Rattle.invariant.proofs.State.{Conserved, Hand, isAnswer, about}
 use Rattle.invariant.proofs.Frame.{Frame, frame-refl, frame-node, frame-returned, node-returned, node-returned-other}
 use Rattle.invariant.proofs.About.{plain, about-plain, about-answer, copy-eqs, reserves-release, reserves-same, alive-release, kind-message}

@@ -1,16 +1,14 @@
 -- Clause C through sending and through updates that leave every reserved copy as it was.
 -- Assumes nothing.
 use mathlib.Core.Path.{_≡_, refl, sym, ap, _∙_}
-use mathlib.Core.Logic.{_≢_}
 use mathlib.Core.Bool.{Bool, true, false, false≢true}
 use mathlib.Core.List.{List, [], _∷_, _++_}
-use Prim.Native.Nat.{ℕ, _+_, _<_}
+use Prim.Native.Nat.{ℕ, _<_}
 use native.Mathlib.Omega.{arith}
 use Rattle.lists.proofs.Count.{ind, count, count-append}
-use Rattle.table.specs.declared.Machine.{Machine}
 use Rattle.table.specs.declared.Message.{Message}
 use Rattle.table.specs.declared.Table.{Table}
-use Rattle.table.specs.Views.{nodeAt, toldAt, messageAt, flight, withMessages}
+use Rattle.table.specs.Views.{nodeAt, messageAt, flight}
 use Rattle.table.specs.Messages.{pull, send}
 use Rattle.table.specs.Parts.{reserves, REQ}
 use Rattle.table.proofs.Views.{Sized, views}

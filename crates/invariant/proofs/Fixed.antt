@@ -1,20 +1,19 @@
 -- A part of the table that no one-part update writes, such as an entry's terms, is after every event what it was before.
 -- Assumes nothing.
-use mathlib.Core.Path.{_≡_, refl, sym, ap, _∙_}
+use mathlib.Core.Path.{_≡_, refl, _∙_}
 use mathlib.Core.Bool.{Bool, not, cond, _&&_, _||_}
 use mathlib.Core.List.{List}
-use Prim.Native.Nat.{ℕ, zero, suc, _+_, max}
+use Prim.Native.Nat.{ℕ, zero, suc, _+_}
 use lib.Dec.{eqb, leb}
-use Rattle.pricer.specs.declared.Bond.{Bond}
 use Rattle.lists.specs.Scan.{upTo}
 use Rattle.lists.proofs.Cases.{byBool}
 use Rattle.table.specs.declared.Job.{Job}
 use Rattle.table.specs.declared.Machine.{Machine}
 use Rattle.table.specs.declared.Message.{Message}
 use Rattle.table.specs.declared.Table.{Table}
-use Rattle.table.specs.Views.{noMachine, bondAt, jobAt, nodeAt, poolAt, toldAt, messageAt, withJob, withNode, withPool, withTold, withMessages, enter}
-use Rattle.table.specs.Messages.{push, pull, sift, send, lowest, wipe, notTo, notFrom}
-use Rattle.table.specs.Parts.{opened, moved, placed, priced, reserve, release, running, waiting, reserves, returned, message, result, REQ, AUTH, DENIED, OBSOLETE, SCHEDULE, ACK}
+use Rattle.table.specs.Views.{noMachine, bondAt, jobAt, nodeAt, toldAt, messageAt, withJob, withNode, withPool, withTold, withMessages, enter}
+use Rattle.table.specs.Messages.{push, pull, sift, send, lowest, wipe}
+use Rattle.table.specs.Parts.{reserves, returned, AUTH, DENIED, OBSOLETE}
 use Rattle.table.proofs.Views.{bond-job, bond-node, bond-pool, bond-told, bond-messages}
 use Rattle.handlers.specs.Handlers.{noWork, grant, onFish, reply, onReq, onAuth, onDenied, onObsolete, onSchedule, onAck, onNoWork, onResult, handle}
 use Rattle.events.specs.Events.{admitted, stolen, delivered, started, finished, died}

@@ -19,6 +19,9 @@ pub mod SideHandle
 pub mod SideEvents
 pub mod SideNotice
 pub mod Fixed
+pub mod PricesHandle
+pub mod PricesEvents
+pub mod Fresh
 pub mod ByKind
 pub mod TripLaws
 pub mod TripFrame
@@ -33,3 +36,4 @@ pub mod TripWithout
 pub mod TripDie
 pub mod TripNotice
 pub mod TripEvents
+pub mod Keeps

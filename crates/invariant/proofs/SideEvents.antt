@@ -1,10 +1,10 @@
 -- Clauses D1, F, D2, R (reserved and running copies) and P through Admit, Steal, Start, Done and Die.
 -- Assumes nothing.
-use mathlib.Core.Path.{_≡_, refl, sym, ap, _∙_}
+use mathlib.Core.Path.{_≡_, refl, sym, _∙_}
 use mathlib.Core.Logic.{_≢_}
-use mathlib.Core.Bool.{Bool, true, false, true≢false}
-use mathlib.Core.List.{List, [], _∷_}
-use Prim.Native.Nat.{ℕ, _+_, _≤_, _<_}
+use mathlib.Core.Bool.{true, false, true≢false}
+use mathlib.Core.List.{List, _∷_}
+use Prim.Native.Nat.{ℕ, _+_, _<_}
 use native.Mathlib.Omega.{arith}
 use Rattle.pricer.specs.Price.{priceBits}
 use Rattle.lists.specs.Scan.{keep}
@@ -13,13 +13,13 @@ use Rattle.lists.proofs.Count.{Every, every-map, every-keep}
 use Rattle.table.specs.declared.Machine.{Machine}
 use Rattle.table.specs.declared.Message.{Message}
 use Rattle.table.specs.declared.Table.{Table}
-use Rattle.table.specs.Views.{noJob, noMachine, bondAt, jobAt, nodeAt, poolAt, toldAt, flight, withJob, withNode, withPool, enter}
+use Rattle.table.specs.Views.{noMachine, bondAt, jobAt, nodeAt, poolAt, toldAt, flight, withJob, withNode, withPool, enter}
 use Rattle.table.specs.Messages.{notTo, send}
 use Rattle.table.specs.Parts.{opened, running, waiting, message, result, FISH}
-use Rattle.table.proofs.Views.{Sized, views, node-same, node-other, node-pool, flight-job}
+use Rattle.table.proofs.Views.{views, node-same, node-other, node-pool, flight-job}
 use Rattle.events.specs.Events.{admitted, stolen, started, finished, died}
 use Rattle.invariant.proofs.State.{Side, Sender, Copies, Placed, Whole, isAnswer}
-use Rattle.invariant.proofs.Frame.{Frame, frame-refl, frame-job, frame-node, frame-pool, node-enter, job-enter, told-enter, flight-enter}
+use Rattle.invariant.proofs.Frame.{Frame, frame-refl, frame-node, frame-pool, node-enter, job-enter, told-enter, flight-enter}
 use Rattle.invariant.proofs.About.{alive-running, alive-waiting}
 use Rattle.invariant.proofs.Died.{job-died, told-died, flight-died, node-died, node-died-other}
 use Rattle.invariant.proofs.SideFrame.{side-node, side-job, side-sends, copies-waiting, copies-running, copies-none, sender-message}

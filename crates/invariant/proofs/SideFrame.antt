@@ -1,10 +1,10 @@
 -- Clauses D1, F, D2, R (reserved and running copies) and P: how they go over from one table and list to another.
 -- Assumes nothing.
-use mathlib.Core.Path.{_≡_, refl, sym, ap, _∙_}
+use mathlib.Core.Path.{_≡_, refl, _∙_}
 use mathlib.Core.Logic.{_≢_}
-use mathlib.Core.Bool.{Bool, true, false, true≢false}
+use mathlib.Core.Bool.{true}
 use mathlib.Core.List.{List, [], _∷_, _++_}
-use Prim.Native.Nat.{ℕ, _+_, _≤_, _<_}
+use Prim.Native.Nat.{ℕ, _≤_, _<_}
 use native.Mathlib.Omega.{arith}
 use Rattle.lists.proofs.Cases.{byEq}
 use Rattle.lists.proofs.Count.{Every, every-append, every-map}
@@ -12,10 +12,10 @@ use Rattle.table.specs.declared.Job.{Job}
 use Rattle.table.specs.declared.Machine.{Machine}
 use Rattle.table.specs.declared.Message.{Message}
 use Rattle.table.specs.declared.Table.{Table}
-use Rattle.table.specs.Views.{noMachine, jobAt, nodeAt, toldAt, messageAt, flight, withJob, withNode, withMessages}
+use Rattle.table.specs.Views.{noMachine, jobAt, nodeAt, toldAt, messageAt, flight, withJob, withMessages}
 use Rattle.table.specs.Messages.{pull, send}
 use Rattle.table.specs.Parts.{reserve, release, running, waiting, message}
-use Rattle.table.proofs.Views.{Sized, views, job-same, job-other, node-job, told-job, told-messages, job-messages, node-messages}
+use Rattle.table.proofs.Views.{Sized, job-same, job-other, node-job, told-job, told-messages, job-messages, node-messages}
 use Rattle.invariant.proofs.State.{Side, Sender, Copies, Placed, isAnswer}
 use Rattle.invariant.proofs.Flight.{Apart, sends, takes, every-taken}
 

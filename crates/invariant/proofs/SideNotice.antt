@@ -3,12 +3,12 @@
 -- Assumes nothing.
 use mathlib.Core.Path.{_≡_, refl, sym, ap, _∙_}
 use mathlib.Core.Logic.{_≢_}
-use mathlib.Core.Bool.{Bool, true, false, not, cond, _&&_, _||_, true≢false}
-use mathlib.Core.List.{List, [], _∷_}
+use mathlib.Core.Bool.{Bool, true, false, not, _&&_, _||_, true≢false}
+use mathlib.Core.List.{List}
 use Prim.Native.Nat.{ℕ, _+_, _≤_, _<_}
 use native.Mathlib.Omega.{arith}
 use lib.Dec.{eqb, ltb}
-use borrow.Author.Tests.{eq-eqb, ne-eqb, eqb-true, eqb-false, ltb-true, ltb-false}
+use borrow.Author.Tests.{eq-eqb, ne-eqb, eqb-false, ltb-true, ltb-false}
 use Rattle.lists.specs.Scan.{keep}
 use Rattle.lists.proofs.Cases.{byBool, byEq, byAnd}
 use Rattle.lists.proofs.Count.{Every, every-map, every-keep, every-zip}
@@ -18,8 +18,7 @@ use Rattle.table.specs.declared.Message.{Message}
 use Rattle.table.specs.declared.Table.{Table}
 use Rattle.table.specs.Views.{jobAt, nodeAt, toldAt, flight}
 use Rattle.table.specs.Messages.{notFrom}
-use Rattle.table.specs.Parts.{opened, release, waiting}
-use Rattle.table.proofs.Views.{Sized}
+use Rattle.table.specs.Parts.{opened}
 use Rattle.events.specs.Notice.{lost, quieted, reissue, noticed}
 use Rattle.preservation.proofs.Facts.{MessageFacts}
 use Rattle.preservation.proofs.Sizes.{sized-quieted}

@@ -1,6 +1,7 @@
 -- The protocol's invariant, clause by clause, over a table and a list of messages: those in flight, and while one is being handled that one too.
 -- Conserved: the reserved copies and the messages about them. Trip: a job's way from machine to machine, and where its current copy is.
--- Side: who has been told of whom, and what is reserved or runs. The table is read through its views alone. What check 9 says of a table is in the record Facts.
+-- Side: who has been told of whom, and what is reserved or runs. Prices: every price is the formula's.
+-- The table is read through its views alone. What check 9 says of a table is in the record Facts.
 -- Assumes nothing.
 use mathlib.Core.Path.{_≡_}
 use mathlib.Core.Logic.{_≢_}
@@ -8,12 +9,13 @@ use mathlib.Core.Bool.{Bool, true, not, cond, _&&_, _||_}
 use mathlib.Core.List.{List}
 use Prim.Native.Nat.{ℕ, _+_, _≤_, _<_}
 use lib.Dec.{eqb, leb}
+use Rattle.pricer.specs.Price.{priceBits}
 use Rattle.table.specs.declared.Job.{Job}
 use Rattle.table.specs.declared.Machine.{Machine}
 use Rattle.table.specs.declared.Message.{Message}
 use Rattle.table.specs.declared.Table.{Table}
-use Rattle.table.specs.Views.{jobAt, nodeAt, poolAt, toldAt, flight}
-use Rattle.table.specs.Parts.{copyIs, reserves, REQ, AUTH, DENIED, OBSOLETE, SCHEDULE, ACK, RESULT}
+use Rattle.table.specs.Views.{bondAt, jobAt, nodeAt, poolAt, toldAt, flight}
+use Rattle.table.specs.Parts.{copyIs, reserves, REQ, AUTH, OBSOLETE, SCHEDULE, ACK, RESULT}
 use Rattle.table.proofs.Views.{Sized}
 use Rattle.lists.proofs.Count.{ind, count, Every}
 use Rattle.preservation.proofs.Ok.{Ok}
@@ -135,6 +137,15 @@ pub record Side (t : Table) (l : List Message) : Type 0 where
   -- P
   pub placed : (j : ℕ) → j < 64 → Placed t (jobAt t j)
 
+-- a RESULT carries the price of its job's terms
+abbrev pub RightPrice : Table → Message → Type 0
+RightPrice t x = x .kind ≡ RESULT → x .price ≡ priceBits (bondAt t (x .job))
+
+-- X: prices are the formula's
+pub record Prices (t : Table) (l : List Message) : Type 0 where
+  pub sent : Every (RightPrice t) l
+  pub shown : (j : ℕ) → j < 64 → jobAt t j .state ≡ 2 → jobAt t j .price ≡ priceBits (bondAt t j)
+
 -- the whole invariant of a table between two events
 pub record Whole (t : Table) : Type 0 where
   pub sized : Sized t
@@ -144,6 +155,7 @@ pub record Whole (t : Table) : Type 0 where
   pub conserved : Conserved t (flight t)
   pub trip : Trip t (flight t)
   pub side : Side t (flight t)
+  pub prices : Prices t (flight t)
 
 -- a message x that was taken off, and the table s that is left for its handler
 pub record Hand (s : Table) (x : Message) : Type 0 where
