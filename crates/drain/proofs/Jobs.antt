@@ -3,12 +3,12 @@
 -- Assumes nothing.
 use mathlib.Core.Path.{_≡_, refl, sym, ap, _∙_}
 use mathlib.Core.Logic.{_≢_}
-use Prim.Native.Nat.{ℕ, zero, suc, _+_, _*_, _≤_, _<_}
+use Prim.Native.Nat.{ℕ, suc, _<_}
 use native.Mathlib.Omega.{arith}
 use Rattle.table.specs.declared.Job.{Job}
 use Rattle.table.specs.declared.Machine.{Machine}
 use Rattle.table.specs.declared.Table.{Table}
-use Rattle.table.specs.Views.{jobAt, nodeAt, poolAt, toldAt, withNode, withPool}
+use Rattle.table.specs.Views.{jobAt, nodeAt, poolAt, withPool}
 use Rattle.table.specs.Parts.{running, accept}
 use Rattle.table.proofs.Views.{Sized, views, sized-pool, node-same, node-other, node-pool}
 use Rattle.events.specs.Events.{started}
@@ -20,7 +20,7 @@ use Rattle.dispatcher.specs.Step.{stepOf}
 use Rattle.drain.proofs.Reach.{Reach, reach-here, reach-step, reach-map, reach-loop}
 use Rattle.drain.proofs.Steps.{event, accepts-start}
 use Rattle.drain.proofs.Kept.{kept, fixed-machines}
-use Rattle.drain.proofs.Deliveries.{Quiet, Informed, informed-same}
+use Rattle.drain.proofs.Deliveries.{Quiet, informed-same}
 use Rattle.drain.proofs.Results.{Finished, finishes}
 use Rattle.drain.proofs.Settled.{Pooled, settled}
 

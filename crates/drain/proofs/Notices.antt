@@ -1,22 +1,19 @@
 -- At most 15 notices to the root: after them it was told of every dead machine of the table's machine count.
 -- Assumes nothing.
-use mathlib.Core.Path.{_≡_, refl, sym, ap, _∙_}
+use mathlib.Core.Path.{_≡_, refl, ap, _∙_}
 use mathlib.Core.Logic.{_≢_}
-use mathlib.Core.Bool.{Bool, true, cond}
-use mathlib.Core.List.{List}
-use Prim.Native.Nat.{ℕ, zero, suc, _+_, _*_, _≤_, _<_}
+use Prim.Native.Nat.{ℕ, suc, _≤_, _<_}
 use native.Mathlib.Omega.{arith}
 use lib.Dec.{ltb}
 use borrow.Author.Tests.{ltb-true, ltb-false}
 use Rattle.table.specs.declared.Machine.{Machine}
-use Rattle.table.specs.declared.Answer.{Answer}
 use Rattle.table.specs.declared.Table.{Table}
 use Rattle.table.specs.Views.{nodeAt, toldAt}
 use Rattle.table.specs.Parts.{accept}
 use Rattle.events.specs.Notice.{quieted, noticed}
 use Rattle.lists.proofs.Cases.{byBool, byEq}
 use Rattle.invariant.proofs.State.{Whole}
-use Rattle.invariant.proofs.Fixed.{Fixed, fixed-noticed}
+use Rattle.invariant.proofs.Fixed.{fixed-noticed}
 use Rattle.invariant.proofs.Quieted.{node-quieted, node-quieted-other, told-quieted, told-quieted-other}
 use Rattle.invariant.proofs.ConservedNotice.{alive-quieted}
 use Rattle.invariant.proofs.Reissued.{node-reissue, told-reissue}

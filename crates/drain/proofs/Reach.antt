@@ -1,7 +1,7 @@
 -- "A list of at most n further events, each answered 0 and each a Deliver, Start, Done or Notice, leads from t to a table of which P holds": put together
 -- from parts.
 -- Assumes nothing.
-use mathlib.Core.Path.{_≡_, refl, sym, ap, _∙_}
+use mathlib.Core.Path.{_≡_, refl, ap}
 use mathlib.Core.Bool.{Bool, true, _||_}
 use mathlib.Core.List.{List, [], _∷_, _++_}
 use Prim.Native.Nat.{ℕ, zero, suc, _+_, _*_, _≤_, _<_}

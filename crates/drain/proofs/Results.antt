@@ -3,23 +3,22 @@
 -- Assumes nothing.
 use mathlib.Core.Path.{_≡_, refl, sym, ap, _∙_}
 use mathlib.Core.Logic.{_≢_}
-use mathlib.Core.Bool.{Bool, true, false, cond}
 use mathlib.Core.List.{List, [], _∷_, _++_}
-use Prim.Native.Nat.{ℕ, zero, suc, _+_, _≤_, _<_}
+use Prim.Native.Nat.{ℕ, _+_, _<_}
 use native.Mathlib.Omega.{arith}
 use lib.Dec.{eqb}
 use lib.ListN.{getD, length}
-use borrow.Author.Tests.{eq-eqb, eqb-true, eqb-false}
+use borrow.Author.Tests.{eq-eqb, eqb-false}
 use Rattle.pricer.specs.Price.{priceBits}
 use Rattle.table.specs.declared.Job.{Job}
 use Rattle.table.specs.declared.Machine.{Machine}
 use Rattle.table.specs.declared.Message.{Message}
 use Rattle.table.specs.declared.Table.{Table}
-use Rattle.table.specs.Views.{noMessage, bondAt, jobAt, nodeAt, poolAt, toldAt, messageAt, flight, withJob, withNode}
+use Rattle.table.specs.Views.{noMessage, bondAt, jobAt, nodeAt, toldAt, messageAt, flight, withJob, withNode}
 use Rattle.table.specs.Messages.{push, pull, send}
 use Rattle.table.specs.Parts.{priced, running, result, accept}
 use Rattle.table.proofs.Views.{Sized, views, sized-node, node-same, node-other, node-messages, told-messages, job-messages, job-same, job-other, length-flight}
-use Rattle.table.proofs.Messages.{flight-push, sized-push, sized-pull, message-flight}
+use Rattle.table.proofs.Messages.{flight-push, sized-pull, message-flight}
 use Rattle.handlers.specs.Handlers.{onResult, handle}
 use Rattle.events.specs.Events.{delivered, finished}
 use Rattle.lists.proofs.Cases.{byBool, byEq}
@@ -31,7 +30,7 @@ use Rattle.dispatcher.specs.Step.{stepOf}
 use Rattle.drain.proofs.Reach.{Reach, reach-here, reach-step}
 use Rattle.drain.proofs.Steps.{event, accepts-deliver, accepts-done}
 use Rattle.drain.proofs.Kept.{kept, fixed-machines}
-use Rattle.drain.proofs.Deliveries.{Quiet, Informed, informed-same, flight-empty}
+use Rattle.drain.proofs.Deliveries.{Quiet, informed-same, flight-empty}
 
 -- u is the table once machine a's running copy of t is priced
 pub record Finished (t : Table) (a : ℕ) (u : Table) : Type 0 where

@@ -1,10 +1,9 @@
 -- With nothing in flight, nothing running and a root that was told of every death, each open job is in the pool of the living machine that it is on.
 -- Assumes nothing.
-use mathlib.Core.Path.{_≡_, refl, sym, ap, _∙_}
+use mathlib.Core.Path.{_≡_, refl, ap}
 use mathlib.Core.Logic.{_≢_}
-use mathlib.Core.Bool.{Bool, true, false, not, _&&_}
-use mathlib.Core.List.{List, [], _∷_}
-use Prim.Native.Nat.{ℕ, _+_, _≤_, _<_}
+use mathlib.Core.Bool.{Bool, true}
+use Prim.Native.Nat.{ℕ, _≤_, _<_}
 use native.Mathlib.Omega.{arith}
 use lib.Dec.{eqb}
 use borrow.Author.Tests.{eq-eqb, ne-eqb, eqb-true}
@@ -15,7 +14,7 @@ use Rattle.table.specs.Views.{jobAt, nodeAt, poolAt, toldAt, flight}
 use Rattle.table.specs.Parts.{copyIs, reserves}
 use Rattle.lists.proofs.Cases.{byBool, byEq}
 use Rattle.lists.proofs.Count.{ind, count}
-use Rattle.invariant.proofs.State.{about, trip, resultFrom, dead, has, held}
+use Rattle.invariant.proofs.State.{about, trip, resultFrom, has, held}
 use Rattle.invariant.proofs.TripLaws.{dead-not}
 use Rattle.invariant.proofs.TripCopies.{reservesJob-none, runsJob-none}
 use Rattle.drain.proofs.Deliveries.{Quiet, flight-empty}

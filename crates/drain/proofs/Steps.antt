@@ -1,21 +1,19 @@
 -- When the dispatcher accepts a Deliver, a Start, a Done and a Notice to the root, at a table of the invariant.
 -- Assumes nothing.
-use mathlib.Core.Path.{_≡_, refl, sym, ap, _∙_}
+use mathlib.Core.Path.{_≡_, refl, _∙_}
 use mathlib.Core.Logic.{_≢_}
-use mathlib.Core.Bool.{Bool, true, false, not, cond, _&&_}
+use mathlib.Core.Bool.{Bool, true, false}
 use mathlib.Core.List.{List, [], _∷_}
-use Prim.Native.Nat.{ℕ, _+_, _≤_, _<_}
+use Prim.Native.Nat.{ℕ, _<_}
 use native.Mathlib.Omega.{arith}
-use lib.Dec.{eqb, leb, ltb}
+use lib.Dec.{eqb}
 use borrow.Author.Tests.{eq-eqb, ne-eqb, lt-ltb, lt-leb}
-use Rattle.table.specs.declared.Message.{Message}
 use Rattle.table.specs.declared.Table.{Table}
 use Rattle.table.specs.Views.{nodeAt, poolAt, toldAt, messageAt}
 use Rattle.table.specs.Messages.{chan, oldest}
 use Rattle.table.specs.Parts.{accept}
 use Rattle.events.specs.Events.{delivered, deliverOf, started, startOf, finished, doneOf}
 use Rattle.events.specs.Notice.{noticed, noticeOf}
-use Rattle.lists.specs.Scan.{least}
 use Rattle.lists.proofs.Scans.{least-none, least-found}
 use Rattle.preservation.proofs.Facts.{MessageFacts}
 use Rattle.preservation.proofs.Ok.{passes}

@@ -1,8 +1,7 @@
 -- Clauses R, O, N, H and S through Admit, Steal, Start and Done.
 -- Assumes nothing.
-use mathlib.Core.Path.{_≡_, refl, sym, ap, _∙_}
-use mathlib.Core.Bool.{Bool, true, false, not, _&&_, false≢true}
-use mathlib.Core.List.{_∷_}
+use mathlib.Core.Path.{_≡_, refl, ap}
+use mathlib.Core.Bool.{true, false, not, _&&_, false≢true}
 use Prim.Native.Nat.{ℕ, _+_, _≤_, _<_, min}
 use native.Mathlib.Omega.{arith}
 use lib.Dec.{eqb}
@@ -13,7 +12,7 @@ use Rattle.table.specs.declared.Job.{Job}
 use Rattle.table.specs.declared.Machine.{Machine}
 use Rattle.table.specs.declared.Message.{Message}
 use Rattle.table.specs.declared.Table.{Table}
-use Rattle.table.specs.Views.{noJob, noMessage, bondAt, jobAt, nodeAt, poolAt, flight, withNode, withPool}
+use Rattle.table.specs.Views.{noMessage, bondAt, jobAt, nodeAt, poolAt, flight, withNode, withPool}
 use Rattle.table.specs.Messages.{send}
 use Rattle.table.specs.Parts.{running, waiting, message, result}
 use Rattle.table.proofs.Views.{views, pool-node, flight-node, flight-pool}
@@ -22,7 +21,7 @@ use Rattle.lists.proofs.Cases.{byBool, byEq, and-left, and-right}
 use Rattle.lists.proofs.Count.{ind}
 use Rattle.invariant.proofs.Frame.{Frame, frame-refl, frame-node, frame-pool, entered}
 use Rattle.invariant.proofs.About.{alive-waiting, alive-running}
-use Rattle.invariant.proofs.State.{Trip, Known, Whole, isTrip, resultFrom, reservesJob, runsJob, has}
+use Rattle.invariant.proofs.State.{Known, Whole, isTrip, resultFrom, reservesJob, runsJob, has}
 use Rattle.invariant.proofs.TripLaws.{known-plain, places}
 use Rattle.invariant.proofs.TripFrame.{trip-nothing}
 use Rattle.invariant.proofs.TripSend.{trip-sends, trip-swap, trip-table}

@@ -1,13 +1,12 @@
 -- Clauses R, O, N, H and S through FISH, SCHEDULE and NOWORK: a copy leaves a pool, or enters one.
 -- Assumes nothing.
 use mathlib.Core.Path.{_≡_, refl, sym, ap, _∙_}
-use mathlib.Core.Bool.{Bool, true, false, not, _&&_, false≢true, true≢false}
-use mathlib.Core.List.{List, _∷_}
-use Prim.Native.Nat.{ℕ, _+_, _≤_, _<_}
+use mathlib.Core.Bool.{true, false, not, _&&_, false≢true}
+use mathlib.Core.List.{_∷_}
+use Prim.Native.Nat.{ℕ, _≤_, _<_}
 use native.Mathlib.Omega.{arith}
 use lib.Dec.{eqb, leb}
 use borrow.Author.Tests.{eqb-true, leb-false, not-false}
-use Rattle.table.specs.declared.Machine.{Machine}
 use Rattle.table.specs.declared.Message.{Message}
 use Rattle.table.specs.declared.Table.{Table}
 use Rattle.table.specs.Views.{jobAt, nodeAt, poolAt, flight, withNode, withPool, enter}
@@ -20,7 +19,7 @@ use Rattle.lists.proofs.Cases.{byBool, and-left, and-right}
 use Rattle.lists.proofs.Count.{ind}
 use Rattle.invariant.proofs.Frame.{Frame, frame-refl, frame-node, frame-pool, frame-enter, node-enter, entered}
 use Rattle.invariant.proofs.About.{alive-reserve, alive-waiting}
-use Rattle.invariant.proofs.State.{Trip, Known, Hand, trip, isTrip, ackFrom, has}
+use Rattle.invariant.proofs.State.{Trip, Known, Hand, trip, isTrip, ackFrom}
 use Rattle.invariant.proofs.TripLaws.{result-other, known-plain, places}
 use Rattle.invariant.proofs.TripFrame.{trip-passed, trip-step}
 use Rattle.invariant.proofs.TripSend.{trip-sends, trip-swap, trip-table}
