@@ -66,18 +66,18 @@ has-waiting t b p j r w n z h e =
 
 -- ---- a place of a pool
 
-pub has-pool : (t : Table) (b j q r : ℕ) → Sized t → b < 16 → j < 64 → has (withPool t b j q) j r b + ind (eqb (poolAt t b j) r) ≡ has t j r b + ind (eqb q r)
+has-pool : (t : Table) (b j q r : ℕ) → Sized t → b < 16 → j < 64 → has (withPool t b j q) j r b + ind (eqb (poolAt t b j) r) ≡ has t j r b + ind (eqb q r)
 unfolding has dead
 has-pool t b j q r z h k =
     let n : nodeAt (withPool t b j q) b ≡ nodeAt t b = node-pool t b j q b in
     let p : poolAt (withPool t b j q) b j ≡ q = pool-same t z b j q h k in
     rw (n, p) (omega arith)
 
-pub has-pool-other-node : (t : Table) (b i q j r p : ℕ) → i < 64 → j < 64 → p ≢ b → has (withPool t b i q) j r p ≡ has t j r p
+has-pool-other-node : (t : Table) (b i q j r p : ℕ) → i < 64 → j < 64 → p ≢ b → has (withPool t b i q) j r p ≡ has t j r p
 unfolding has dead
 has-pool-other-node t b i q j r p h k e = simp (node-pool, pool-other-node)
 
-pub has-pool-other-job : (t : Table) (b i q j r p : ℕ) → i < 64 → j < 64 → j ≢ i → has (withPool t b i q) j r p ≡ has t j r p
+has-pool-other-job : (t : Table) (b i q j r p : ℕ) → i < 64 → j < 64 → j ≢ i → has (withPool t b i q) j r p ≡ has t j r p
 unfolding has dead
 has-pool-other-job t b i q j r p h k e = simp (node-pool, pool-other-job)
 
