@@ -1,5 +1,5 @@
 #!/usr/bin/python3
-"""Writes the identifiers that the program isin_vectors is run on, and what it must print.
+"""Writes the identifiers that the program vectors is run on, and what it must print.
 
 To run, at the root of the repository: /usr/bin/python3 tools/make_isin_vectors.py
 It needs: apt-get install python3-stdnum libalgorithm-checkdigits-perl (last run with 1.18 and 1.3.6 of Debian 12)
@@ -16,18 +16,15 @@ import pathlib
 import random
 import re
 import subprocess
-import sys
 
 from stdnum import isin
 
+from vector_files import MOST, SIZE, fail_unless, write_file, write_stdout
+
 FORM = re.compile(rb"[A-Z]{2}[A-Z0-9]{9}[0-9]")
-LONGEST = 14  # bytes of text in a record
-MOST = 4096  # records that the program reads
+LONGEST = 14  # bytes of the longest text
 DIGITS = b"0123456789"
 LETTERS = b"ABCDEFGHIJKLMNOPQRSTUVWXYZ"
-
-ROOT = pathlib.Path(__file__).resolve().parent.parent
-CRATE = ROOT / "crates" / "isin_vectors"
 
 # Published identifiers: each must pass.
 PUBLISHED = [
@@ -171,14 +168,9 @@ def all_texts():
         yield bytes([byte]) * 12
 
 
-def fail_unless(condition, message):
-    if not condition:
-        sys.exit("make_isin_vectors.py: " + message)
-
-
 def record(text, expected):
-    """A length byte, the text filled up with 0 to 14 bytes, and the expected verdict: 16 bytes."""
-    return bytes([len(text)]) + text.ljust(LONGEST, b"\0") + bytes([expected])
+    """The expected verdict, a length byte, and the text filled up with 0: 32 bytes."""
+    return bytes([expected, len(text)]) + text.ljust(SIZE - 2, b"\0")
 
 
 def main():
@@ -189,15 +181,11 @@ def main():
     by_text = dict(zip(texts, verdicts))
     for text, expected in EXAMPLES + [(text, 0) for text in PUBLISHED]:
         fail_unless(by_text[text] == expected, f"{text!r}: {by_text[text]}, and {expected} is known")
-    fail_unless(2000 <= len(texts) <= MOST, f"{len(texts)} identifiers")
-    fail_unless(max(len(text) for text in texts) == LONGEST, "lengths")
-
-    (CRATE / "data").mkdir(parents=True, exist_ok=True)
-    (CRATE / "data" / "isin.bin").write_bytes(b"".join(map(record, texts, verdicts)))
-    lines = [f"verdict {v}: {verdicts.count(v)} of {verdicts.count(v)}" for v in (0, 4, 5)]
-    lines += [f"records: {len(texts)}", "differences: 0"]
-    (CRATE / "stdout").write_text("\n".join(lines) + "\n")
-    print("\n".join(lines))
+    fail_unless(len(texts) >= 2000 and max(len(text) for text in texts) == LONGEST, "too few, or another length")
+    records = list(map(record, texts, verdicts))
+    write_file("identifiers_1.bin", records[:MOST])
+    write_file("identifiers_2.bin", records[MOST:])
+    write_stdout()
 
 
 if __name__ == "__main__":

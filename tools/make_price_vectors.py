@@ -1,5 +1,5 @@
 #!/usr/bin/python3
-"""Writes the terms and prices that the program price_vectors is run on, and what it must print.
+"""Writes the terms and prices that the program vectors is run on, and what it must print.
 
 To run, at the root of the repository: /usr/bin/python3 tools/make_price_vectors.py
 It needs: apt-get install gcc (last run with 12.2 and Python 3.11 of Debian 12)
@@ -20,12 +20,10 @@ import sys
 import tempfile
 from fractions import Fraction
 
+from vector_files import fail_unless, write_file, write_stdout
+
 ZERO, FIXED = 1, 2  # the two kinds
 REFUSED = 7  # the number of a term outside the rules
-MOST = 65536 // 32  # records that the program reads of a file
-
-ROOT = pathlib.Path(__file__).resolve().parent.parent
-CRATE = ROOT / "crates" / "price_vectors"
 
 # The examples of document 01: kind, periods, coupon, yield and the price, which must come out so.
 EXAMPLES = [(FIXED, 2, 4.0, 0.0, 104.0), (ZERO, 2, 0.0, 0.5, 64.0), (FIXED, 1, 10.0, 0.5, 84.0)]
@@ -165,11 +163,6 @@ def terms():
         yield term(kind, periods, rng.choice([0, *RATES]), rng.choice(RATES), spare)
 
 
-def fail_unless(condition, message):
-    if not condition:
-        sys.exit("make_price_vectors.py: " + message)
-
-
 def priced(texts):
     """The price bits of each term within the rules, on which both computations agree."""
     inside = [text for text in texts if within_the_rules(text)]
@@ -182,18 +175,8 @@ def priced(texts):
 
 
 def record(text, prices):
-    """The term's 19 bytes, the expected number (0 or 7), 4 bytes 0, the price bits (0 for a refused term): 32 bytes."""
-    return text + struct.pack("<B4xQ", 0 if text in prices else REFUSED, prices.get(text, 0))
-
-
-def section(name, texts, prices):
-    """Writes a data file, and answers the lines that the program prints of it."""
-    fail_unless(len(texts) <= MOST, f"{len(texts)} records in {name}")
-    (CRATE / "data").mkdir(parents=True, exist_ok=True)
-    (CRATE / "data" / name).write_bytes(b"".join(record(text, prices) for text in texts))
-    kinds = [text[0] if text in prices else REFUSED for text in texts]
-    counted = [(label, kinds.count(k)) for label, k in (("zero-coupon", ZERO), ("fixed coupon", FIXED), ("refused", REFUSED))]
-    return [name] + [f"{label}: {n} of {n}" for label, n in counted] + [f"records: {len(texts)}", "differences: 0"]
+    """The class (the term's kind, or 7), the term's 19 bytes, 4 bytes 0, the price bits (0 for a refused term): 32 bytes."""
+    return bytes([text[0] if text in prices else REFUSED]) + text + struct.pack("<4xQ", prices.get(text, 0))
 
 
 def main():
@@ -203,9 +186,9 @@ def main():
     fail_unless(len(all_bonds) >= 500 and len(all_terms) >= 300, "too few")
     for example in EXAMPLES:
         fail_unless(of_bits(prices[bond(*example[:4])]) == example[4], f"{example}: not the price of document 01")
-    lines = section("prices.bin", all_bonds, prices) + section("terms.bin", all_terms, prices)
-    (CRATE / "stdout").write_text("\n".join(lines) + "\n")
-    print("\n".join(lines))
+    write_file("terms.bin", [record(text, prices) for text in all_terms])
+    write_file("prices.bin", [record(text, prices) for text in all_bonds])
+    write_stdout()
 
 
 if __name__ == "__main__":

@@ -8,7 +8,7 @@ use native.Mathlib.Nat.{not-suc-le-zero, le-of-suc-le-suc}
 use native.Mathlib.Omega.{arith}
 use lib.ListN.{length, getD, take, drop, replicate}
 use lib.Dec.{ltb}
-use borrow.Author.Tests.{ltb-true}
+use borrow.Author.Tests.{ltb-true, ltb-false}
 use Rattle.lists.specs.Scan.{keep, without, least, countTo}
 use Rattle.lists.proofs.Cases.{byBool, byEq}
 
@@ -194,3 +194,18 @@ least-at p (suc n) h =
     (λ e. byBool (p n)
     (λ d. rw (e, d) d)
     (λ d. let z : suc n < suc n = rw (e, d) at h in absurd (omega arith)))
+
+-- no index before it does
+pub least-before : (p : ℕ → Bool) (n i : ℕ) → i < least p n → p i ≡ false
+unfolding least
+least-before p zero i h = absurd (not-suc-le-zero h)
+least-before p (suc n) i h =
+    byBool (ltb (least p n) n)
+    (λ e. let k : i < least p n = rw e at h in least-before p n i k)
+    (λ e.
+    let above : n ≤ least p n = ltb-false (least p n) n e in
+    byBool (p n)
+    (λ d. let k : i < n = rw (e, d) at h in least-before p n i (omega arith))
+    (λ d.
+    let k : i < suc n = rw (e, d) at h in
+    byEq i n (λ q. rw q d) (λ q. least-before p n i (omega arith))))

@@ -1,1 +1,1 @@
-// Check 9 as facts, and which updates of a table keep them. No code: every theorem here is about definitions of the crates below.
+// Check 9 as facts, and that every event keeps them. No code: every theorem here is about definitions of the crates below.

@@ -1,1 +1,2 @@
 pub mod Nans
+pub mod Ranged

@@ -1,0 +1,172 @@
+-- What an accepted book gives, for the crates above, which do not look into the reader: its sizes, identifiers that pass and are all different,
+-- and terms in range. Assumes nothing.
+use mathlib.Core.Path.{_≡_, refl, sym, ap, _∙_, subst}
+use mathlib.Core.Bool.{Bool, true, false, not, cond, _&&_, true≢false}
+use mathlib.Core.Logic.{_≢_, _⊎_, ⊎-elim}
+use mathlib.Core.List.{List, []}
+use Prim.Native.Nat.{ℕ, suc, _+_, _*_, _≤_, _<_}
+use native.Mathlib.Omega.{arith}
+use borrow.Author.Tests.{ltb-true, ltb-false, leb-true, eqb-true, eqb-false, ne-eqb, lt-ltb, le-ltb, not-false}
+use lib.Dec.{leb, ltb, eqb}
+use lib.ListN.{length}
+use Rattle.lists.specs.Scan.{all, least}
+use Rattle.lists.proofs.Cases.{byBool, byEq, and-left, and-right}
+use Rattle.endian.specs.Endian.{le16}
+use Rattle.lists.proofs.Scans.{all-at}
+use Rattle.lists.proofs.Count.{least-at, least-before}
+use Rattle.isin.specs.Isin.{verdictOf}
+use Rattle.pricer.specs.Range.{inRange}
+use Rattle.pricer.specs.declared.Bond.{Bond}
+use Rattle.term.specs.Term.{termOf}
+use Rattle.term.proofs.Ranged.{read-in-range}
+use Rattle.term.specs.declared.Reading.{Reading}
+use Rattle.term.specs.declared.Reading.the-variants.{Faulty, Valid}
+use Rattle.book.specs.Book.{machinesOf, entriesOf, sizesInRange, identifierAt, termAt, same, repeated, termFault, faultAt, lowestFaulty, lowestFault, bookVerdict}
+use Rattle.book.specs.Parts.{IsSize, sizeAt, entryCount, identifierOf, noBond, bondIn, bondAt, bondOf}
+use Rattle.book.proofs.Rests.{same-itself}
+use Rattle.book.proofs.Faults.{isFaulty, differs}
+
+-- ---- the sizes
+
+pub record Sizes (machines entries : ℕ) : Type 0 where
+  pub some : 2 ≤ machines
+  pub machines-most : machines ≤ 16
+  pub entries-most : entries ≤ 64
+
+pub sizes : (m n : ℕ) → sizesInRange m n ≡ true → Sizes m n
+unfolding sizesInRange
+sizes m n e =
+    let a : leb 2 m && leb m 16 ≡ true = and-left (leb 2 m && leb m 16) (leb n 64) e in
+    record {
+      some = leb-true 2 m (and-left (leb 2 m) (leb m 16) a);
+      machines-most = leb-true m 16 (and-right (leb 2 m) (leb m 16) a);
+      entries-most = leb-true n 64 (and-right (leb 2 m && leb m 16) (leb n 64) e);
+    }
+
+-- ---- a choice that is 0 did not take an arm that is not
+
+no : (n : ℕ) → suc n ≡ 0 → ⊥
+no n e = omega arith
+
+past : (t : Bool) (n a : ℕ) → cond t (suc n) a ≡ 0 → (t ≡ false) × (a ≡ 0)
+past true n a e = absurd (no n e)
+past false n a e = (refl, e)
+
+-- ---- the book
+
+pub record Accepted (s : List ℕ) : Type 0 where
+  pub four : 4 ≤ length s
+  pub sizes-in-range : Sizes (machinesOf s) (entriesOf s)
+  pub whole : length s ≡ 4 + 31 * entriesOf s
+  pub faultless : (i : ℕ) → i < entriesOf s → faultAt s (entriesOf s) i ≡ 0
+
+no-fault : (s : List ℕ) (n : ℕ) → lowestFault s n ≡ 0 → (i : ℕ) → i < n → faultAt s n i ≡ 0
+unfolding lowestFault lowestFaulty
+no-fault s n e i h =
+    let k = least (isFaulty s n) n in
+    byBool (ltb k n)
+    (λ b.
+    let f : faultAt s n k ≡ 0 = rw b at e in
+    let g : isFaulty s n k ≡ false = rw f in
+    absurd (true≢false (sym (least-at (isFaulty s n) n (ltb-true k n b)) ∙ g)))
+    (λ b.
+    let l : n ≤ k = ltb-false k n b in
+    let g : isFaulty s n i ≡ false = least-before (isFaulty s n) n i (omega arith) in
+    eqb-true (faultAt s n i) 0 (not-false _ g))
+
+pub accepted : (s : List ℕ) → bookVerdict s ≡ 0 → Accepted s
+unfolding bookVerdict
+accepted s e =
+    let a = past (ltb (length s) 4) 0 _ e in
+    let b = past (not (sizesInRange (machinesOf s) (entriesOf s))) 1 _ (a .1) in
+    let c = past (not (eqb (length s) (4 + 31 * entriesOf s))) 2 _ (b .1) in
+    record {
+      four = ltb-false _ _ (a .0);
+      sizes-in-range = sizes _ _ (not-false _ (b .0));
+      whole = eqb-true _ _ (not-false _ (c .0));
+      faultless = no-fault s (entriesOf s) (c .1);
+    }
+
+-- ---- an entry without fault
+
+pub record Entry (s : List ℕ) (n i : ℕ) : Type 0 where
+  pub passes : verdictOf (identifierAt s i) ≡ 0
+  pub new : (k : ℕ) → k < i → identifierAt s k ≢ identifierAt s i
+  pub read : termOf (termAt s n i) ≡ Valid (bondAt s n i)
+  pub in-range : inRange (bondAt s n i) ≡ true
+
+-- what reads to no fault is the bond of the entry
+valid : (r : Reading) → termFault r ≡ 0 → r ≡ Valid (bondIn r)
+valid Faulty e = absurd (no 6 e)
+valid (Valid b) e = refl
+
+entry-of : (s : List ℕ) (n i : ℕ) → faultAt s n i ≡ 0 → Entry s n i
+unfolding faultAt repeated bondAt
+entry-of s n i e =
+    let v = verdictOf (identifierAt s i) in
+    let a : eqb v 0 ≡ true = byBool (eqb v 0) (λ b. b) (λ b. let z : v ≡ 0 = rw b at e in absurd (eqb-false v 0 b z)) in
+    let f : cond (not (all (differs s i) i)) 6 (termFault (termOf (termAt s n i))) ≡ 0 = rw a at e in
+    let g = past (not (all (differs s i) i)) 5 _ f in
+    let r : termOf (termAt s n i) ≡ Valid (bondIn (termOf (termAt s n i))) = valid (termOf (termAt s n i)) (g .1) in
+    record {
+      passes = eqb-true v 0 a;
+      new = λ k h q.
+          let d : differs s i k ≡ true = all-at (differs s i) i k (not-false _ (g .0)) h in
+          let w : differs s i k ≡ false = rw q (ap not (same-itself (identifierAt s i))) in
+          true≢false (sym d ∙ w);
+      read = r;
+      in-range = read-in-range (termAt s n i) _ r;
+    }
+
+pub entry : (s : List ℕ) → Accepted s → (i : ℕ) → i < entriesOf s → Entry s (entriesOf s) i
+entry s a i h = entry-of s (entriesOf s) i (a .faultless i h)
+
+-- ---- by the counts that the reader hands out
+
+pub accepted-size : (s : List ℕ) (at : ℕ) → bookVerdict s ≡ 0 → sizeAt s at ≡ le16 s at
+unfolding sizeAt
+accepted-size s at e = rw e
+
+pub refused-size : (s : List ℕ) (at : ℕ) → (bookVerdict s ≡ 0 → ⊥) → sizeAt s at ≡ 0
+unfolding sizeAt
+refused-size s at e = rw (ne-eqb (bookVerdict s) 0 e)
+
+-- a book with an entry is accepted
+pub has-entry : (s : List ℕ) (i : ℕ) → i < entryCount s → bookVerdict s ≡ 0
+has-entry s i h =
+    byEq (bookVerdict s) 0 (λ e. e) (λ e. absurd (omega (arith, refused-size s 2 e)))
+
+pub record Counted (s : List ℕ) (n : ℕ) : Type 0 where
+  pub whole : length s ≡ 4 + 31 * n
+  pub most : n < 65
+
+pub counted : (s : List ℕ) (i : ℕ) → i < entryCount s → Counted s (entryCount s)
+counted s i h =
+    let e = has-entry s i h in
+    let a = accepted s e in
+    let n = accepted-size s 2 e in
+    record { whole = omega (arith, a .whole, n); most = omega (arith, a .sizes-in-range .entries-most, n) }
+
+-- a size fits a byte
+pub size-small : (s : List ℕ) (at : ℕ) → bookVerdict s ≡ 0 → IsSize at → le16 s at < 256
+size-small s at e h =
+    let z = accepted s e .sizes-in-range in
+    ⊎-elim (λ q. rw q (omega (arith, z .machines-most))) (λ q. rw q (omega (arith, z .entries-most))) h
+
+-- the parts of an entry below the count, and of one that is not
+module _ (s : List ℕ) (i : ℕ) where
+  pub identifier-below : i < entryCount s → identifierAt s i ≡ identifierOf s i
+  unfolding identifierOf
+  identifier-below h = rw (lt-ltb i (entryCount s) h)
+
+  pub identifier-past : entryCount s ≤ i → [] ≡ identifierOf s i
+  unfolding identifierOf
+  identifier-past h = rw (le-ltb i (entryCount s) h)
+
+  pub bond-below : i < entryCount s → bondAt s (entryCount s) i ≡ bondOf s i
+  unfolding bondOf
+  bond-below h = rw (lt-ltb i (entryCount s) h)
+
+  pub bond-past : entryCount s ≤ i → noBond ≡ bondOf s i
+  unfolding bondOf
+  bond-past h = rw (le-ltb i (entryCount s) h)

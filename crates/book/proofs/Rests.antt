@@ -1,0 +1,52 @@
+-- What `same` says of the rests of two lists, and that it is equality. Assumes nothing.
+use mathlib.Core.Path.{_≡_, refl, sym, ap, _∙_}
+use mathlib.Core.Bool.{true, false, _&&_, true≢false}
+use mathlib.Core.List.{List, [], _∷_}
+use Prim.Native.Nat.{ℕ, suc, _+_, _<_}
+use native.Mathlib.Nat.{suc-inj}
+use native.Mathlib.Numerals.{add-one}
+use borrow.Author.Tests.{eq-eqb, ne-eqb, eqb-true}
+use lib.Dec.{eqb}
+use lib.ListN.{length, drop, getD}
+use lib.Seq.{drop-cons}
+use Rattle.lists.proofs.Cases.{and-false, and-left, and-right}
+use Rattle.book.specs.Book.{same}
+
+pub differ-in-length : (a b : List ℕ) → (length a ≡ length b → ⊥) → same a b ≡ false
+unfolding same
+differ-in-length [] [] h = absurd (h refl)
+differ-in-length [] (y ∷ ys) h = refl
+differ-in-length (x ∷ xs) [] h = refl
+differ-in-length (x ∷ xs) (y ∷ ys) h = rw (differ-in-length xs ys (λ e. h (ap suc e))) (and-false (eqb x y))
+
+pub both-end : same [] [] ≡ true
+unfolding same
+both-end = refl
+
+module _ (a b : List ℕ) (i : ℕ) (h : i < length a) (k : i < length b) where
+  cut : same (drop i a) (drop i b) ≡ same (getD a i 0 ∷ drop (i + 1) a) (getD b i 0 ∷ drop (i + 1) b)
+  cut = rw (add-one, drop-cons a i 0, drop-cons b i 0)
+
+  pub agree : getD a i 0 ≡ getD b i 0 → same (drop i a) (drop i b) ≡ same (drop (i + 1) a) (drop (i + 1) b)
+  unfolding same
+  agree e = cut ∙ simp (eq-eqb _ _ e)
+
+  pub differ : (getD a i 0 ≡ getD b i 0 → ⊥) → same (drop i a) (drop i b) ≡ false
+  unfolding same
+  differ e = cut ∙ simp (ne-eqb _ _ e)
+
+-- what is the same is equal, and what is equal is the same
+pub same-equal : (a b : List ℕ) → same a b ≡ true → a ≡ b
+unfolding same
+same-equal [] [] e = refl
+same-equal [] (y ∷ ys) e = absurd (true≢false (sym e))
+same-equal (x ∷ xs) [] e = absurd (true≢false (sym e))
+same-equal (x ∷ xs) (y ∷ ys) e =
+    let h : x ≡ y = eqb-true x y (and-left (eqb x y) (same xs ys) e) in
+    let t : xs ≡ ys = same-equal xs ys (and-right (eqb x y) (same xs ys) e) in
+    rw (h, t)
+
+pub same-itself : (a : List ℕ) → same a a ≡ true
+unfolding same
+same-itself [] = refl
+same-itself (x ∷ xs) = rw (eq-eqb x x refl) (same-itself xs)

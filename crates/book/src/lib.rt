@@ -1,0 +1,199 @@
+// The book: its sizes, its lowest faulty entry, and the parts of an entry.
+use pricer::Bond;
+use pricer::Terms;
+use term::Reading;
+ghost use mathlib.Core.Path.{_≡_};
+ghost use Prim.Native.Nat.{_+_, _*_, _≤_, _<_};
+ghost use lib.ListN.{length};
+ghost use Rattle.book.specs.Book.{same, repeated, faultAt, lowestFault, sizesInRange, bookVerdict};
+ghost use Rattle.book.specs.Parts.{IsSize, sizeAt, bondIn, bondAt, machineCount, entryCount, identifierOf, identifierNumber, bondOf};
+
+// Whether a and b hold the same bytes.
+fn equal(a: &[u8], b: &[u8]) -> bool
+    ensures { λ r. ⌜ r ≡ same (now (a .entry)) (now (b .entry)) ⌝ }
+{
+    if a.len() != b.len() {
+        return false;
+    }
+    let mut i = 0;
+    while i < a.len() {
+        if a[i] != b[i] {
+            return false;
+        }
+        i += 1;
+    }
+    true
+}
+
+// Whether an entry before i has the identifier of i.
+fn seen_before(s: &[u8], i: usize) -> bool
+    requires { ⌜ 16 + 12 * i ≤ length (now s) ⌝ }
+    requires { ⌜ i < 64 ⌝ }
+    ensures { λ r. ⌜ r ≡ repeated (now (s .entry)) i ⌝ }
+{
+    let a = 4 + 12 * i;
+    let e = a + 12;
+    let mut k = 0;
+    while k < i {
+        let b = 4 + 12 * k;
+        let f = b + 12;
+        if equal(&s[b..f], &s[a..e]) {
+            return true;
+        }
+        k += 1;
+    }
+    false
+}
+
+// The number of the fault of entry i of n, or 0.
+fn fault(s: &[u8], n: usize, i: usize) -> u8
+    requires { ⌜ length (now s) ≡ 4 + 31 * n ⌝ }
+    requires { ⌜ (i < n) × (n < 65) ⌝ }
+    ensures { λ r. ⌜ r ≡ faultAt (now (s .entry)) n i ⌝ }
+{
+    let a = 4 + 12 * i;
+    let e = a + 12;
+    let v = isin::verdict(&s[a..e]);
+    if v != 0 {
+        return v;
+    }
+    if seen_before(s, i) {
+        return 6;
+    }
+    let b = 4 + 12 * n + 19 * i;
+    let f = b + 19;
+    let t = term::read(&s[b..f]);
+    match t {
+        Reading::Faulty => 7,
+        Reading::Valid(_) => 0,
+    }
+}
+
+// The fault of the lowest faulty one of n entries, or 0.
+fn lowest_fault(s: &[u8], n: usize) -> u8
+    requires { ⌜ length (now s) ≡ 4 + 31 * n ⌝ }
+    requires { ⌜ n < 65 ⌝ }
+    ensures { λ r. ⌜ r ≡ lowestFault (now (s .entry)) n ⌝ }
+{
+    let mut i = 0;
+    while i < n {
+        let f = fault(s, n, i);
+        if f != 0 {
+            return f;
+        }
+        i += 1;
+    }
+    0
+}
+
+fn sizes_in_range(machines: u16, entries: u16) -> bool
+    ensures { λ r. ⌜ r ≡ sizesInRange machines entries ⌝ }
+{
+    (2 <= machines) & (machines <= 16) & (entries <= 64)
+}
+
+// 0 for an accepted book, or the number of its refusal.
+pub fn verdict(s: &[u8]) -> u8
+    ensures { λ r. ⌜ r ≡ bookVerdict (now (s .entry)) ⌝ }
+{
+    if s.len() < 4 {
+        return 1;
+    }
+    let m = endian::u16_at(s, 0);
+    let n = endian::u16_at(s, 2);
+    if !sizes_in_range(m, n) {
+        return 2;
+    }
+    let entries = n as usize;
+    if s.len() != 4 + 31 * entries {
+        return 3;
+    }
+    lowest_fault(s, entries)
+}
+
+// A size of an accepted book, else 0.
+fn size_at(s: &[u8], at: usize) -> u8
+    requires { ⌜ IsSize at ⌝ }
+    ensures { λ r. ⌜ r ≡ sizeAt (now (s .entry)) at ⌝ }
+{
+    if verdict(s) != 0 {
+        return 0;
+    }
+    endian::u16_at(s, at) as u8
+}
+
+// The machine count of an accepted book, else 0.
+pub fn machines(s: &[u8]) -> u8
+    ensures { λ r. ⌜ r ≡ machineCount (now (s .entry)) ⌝ }
+{
+    size_at(s, 0)
+}
+
+// The entry count of an accepted book, else 0.
+pub fn entries(s: &[u8]) -> u8
+    ensures { λ r. ⌜ r ≡ entryCount (now (s .entry)) ⌝ }
+{
+    size_at(s, 2)
+}
+
+// The identifier of entry i, as that part of the book; the empty part for a faulty book or an entry number of n or more.
+pub fn identifier(s: &[u8], i: usize) -> &[u8]
+    ensures { λ r. ⌜ now r ≡ identifierOf (now (s .entry)) i ⌝ }
+{
+    let n = entries(s) as usize;
+    if i < n {
+        let a = 4 + 12 * i;
+        let e = a + 12;
+        &s[a..e]
+    } else {
+        &s[0..0]
+    }
+}
+
+// The number that goes with that part: the faulty book's own, 11 for an entry number of n or more, or 0.
+pub fn identifier_number(s: &[u8], i: usize) -> u8
+    ensures { λ r. ⌜ r ≡ identifierNumber (now (s .entry)) i ⌝ }
+{
+    let v = verdict(s);
+    if v != 0 {
+        return v;
+    }
+    let n = entries(s) as usize;
+    if i < n { 0 } else { 11 }
+}
+
+// The bond of a term that was read; what stands where there is none has no periods and a zero's terms, all bits clear.
+fn bond_in(r: Reading) -> Bond
+    ensures { λ b. ⌜ b ≡ bondIn r ⌝ }
+{
+    match r {
+        Reading::Faulty => Bond {
+            periods: 0,
+            terms: Terms::Zero(0.0),
+        },
+        Reading::Valid(b) => b,
+    }
+}
+
+// The bond of entry i of n.
+pub fn bond_at(s: &[u8], n: usize, i: usize) -> Bond
+    requires { ⌜ length (now s) ≡ 4 + 31 * n ⌝ }
+    requires { ⌜ (i < n) × (n < 65) ⌝ }
+    ensures { λ r. ⌜ r ≡ bondAt (now (s .entry)) n i ⌝ }
+{
+    let b = 4 + 12 * n + 19 * i;
+    let f = b + 19;
+    bond_in(term::read(&s[b..f]))
+}
+
+// The bond of entry i; no bond for a faulty book or an entry number of n or more.
+pub fn bond(s: &[u8], i: usize) -> Bond
+    ensures { λ r. ⌜ r ≡ bondOf (now (s .entry)) i ⌝ }
+{
+    let n = entries(s) as usize;
+    if i < n {
+        bond_at(s, n, i)
+    } else {
+        bond_in(Reading::Faulty)
+    }
+}

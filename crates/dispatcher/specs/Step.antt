@@ -1,0 +1,64 @@
+-- Document 01, "Where each refusal is checked": one event on a table, whatever the table and the bytes of the event, and a list of events. Definitions only.
+use mathlib.Core.Bool.{Bool, not, cond, _&&_, _||_}
+use mathlib.Core.List.{List, [], _∷_}
+use Prim.Native.Nat.{ℕ}
+use lib.Dec.{eqb, leb, ltb}
+use lib.ListN.{length, getD}
+use Rattle.table.specs.declared.Table.{Table}
+use Rattle.table.specs.declared.Answer.{Answer}
+use Rattle.table.specs.Views.{refuse}
+use Rattle.validity.specs.Validity.{tableOk}
+use Rattle.events.specs.Events.{admitOf, stealOf, deliverOf, startOf, doneOf, dieOf}
+use Rattle.events.specs.Notice.{noticeOf}
+
+-- "Events are three bytes: code, a, b."
+abbrev pub codeOf : List ℕ → ℕ
+codeOf e = getD e 0 0
+
+abbrev pub firstOf : List ℕ → ℕ
+firstOf e = getD e 1 0
+
+abbrev pub secondOf : List ℕ → ℕ
+secondOf e = getD e 2 0
+
+-- Admit, Done and Die have no use for b
+abbrev pub usesSecond : ℕ → Bool
+usesSecond code = not (eqb code 1 || eqb code 5 || eqb code 6)
+
+-- "code not 1 to 7, unused b not 0, or fewer than three bytes": the contrary
+unfoldable pub formed : List ℕ → Bool
+formed e = leb 3 (length e) && leb 1 (codeOf e) && leb (codeOf e) 7 && (usesSecond (codeOf e) || eqb (secondOf e) 0)
+
+-- "machine or entry number too large": the contrary. Admit's a and Start's b are entry numbers; an unused b is 0 here, and machine 0 is there
+unfoldable pub numbered : Table → ℕ → ℕ → ℕ → Bool
+numbered t code a b =
+    cond (eqb code 1) (ltb a (t .entries))
+    (cond (eqb code 4) (ltb a (t .machines) && ltb b (t .entries))
+    (ltb a (t .machines) && ltb b (t .machines)))
+
+-- the event of a code
+unfoldable pub eventOf : Table → ℕ → ℕ → ℕ → Answer
+eventOf t code a b =
+    cond (eqb code 1) (admitOf t a)
+    (cond (eqb code 2) (stealOf t a b)
+    (cond (eqb code 3) (deliverOf t a b)
+    (cond (eqb code 4) (startOf t a b)
+    (cond (eqb code 5) (doneOf t a)
+    (cond (eqb code 6) (dieOf t a)
+    (noticeOf t a b))))))
+
+-- 10 and 11, then the event's own refusals: of a table that passes check 9
+unfoldable pub answerOf : Table → List ℕ → Answer
+answerOf t e =
+    cond (not (formed e)) (refuse 10 t)
+    (cond (not (numbered t (codeOf e) (firstOf e) (secondOf e))) (refuse 11 t)
+    (eventOf t (codeOf e) (firstOf e) (secondOf e)))
+
+-- "Table, before any event | 9"
+unfoldable pub stepOf : Table → List ℕ → Answer
+stepOf t e = cond (not (tableOk t)) (refuse 9 t) (answerOf t e)
+
+-- "The first event is given the fresh table, each later one the table that the event before it returned."
+unfoldable pub runOf : Table → List (List ℕ) → Table
+runOf t [] = t
+runOf t (e ∷ es) = runOf (stepOf t e .table) es

@@ -1,0 +1,1 @@
+// One event on any table: check 9, the event's form and numbers, then the event itself.

@@ -1,0 +1,50 @@
+-- Clause C through Die: it no longer speaks of the dead machine, and the dropped messages counted for that machine alone.
+-- Assumes nothing.
+use mathlib.Core.Path.{_≡_, refl, sym, ap, _∙_}
+use mathlib.Core.Logic.{_≢_}
+use mathlib.Core.Bool.{Bool, true, false, not, cond, _&&_}
+use mathlib.Core.List.{List}
+use Prim.Native.Nat.{ℕ, _<_}
+use native.Mathlib.Omega.{arith}
+use lib.Dec.{eqb}
+use borrow.Author.Tests.{eq-eqb, ne-eqb, eqb-true, eqb-false}
+use Rattle.lists.proofs.Cases.{byBool, byEq, and-left, and-right}
+use Rattle.lists.proofs.Count.{ind, count, count-keep, Every, every-map}
+use Rattle.table.specs.declared.Machine.{Machine}
+use Rattle.table.specs.declared.Message.{Message}
+use Rattle.table.specs.declared.Table.{Table}
+use Rattle.table.specs.Views.{nodeAt, toldAt, flight}
+use Rattle.table.specs.Messages.{notTo}
+use Rattle.table.specs.Parts.{copyIs, reserves, REQ}
+use Rattle.events.specs.Events.{died}
+use Rattle.preservation.proofs.Facts.{MessageFacts}
+use Rattle.invariant.proofs.State.{Conserved, Whole, isAnswer, about}
+use Rattle.invariant.proofs.Died.{told-died, flight-died, node-died, node-died-other}
+
+-- a message about m's copy is to m or to the root
+about-kept : (m th j q a : ℕ) (x : Message) → a ≢ 0 → m ≢ a → (x .kind ≡ REQ → x .to ≡ 0) → about m th j q x ≡ true → notTo a x ≡ true
+unfolding about
+about-kept m th j q a x nz nm asks e =
+    byBool (eqb (x .kind) REQ)
+    (λ f. rw (asks (eqb-true (x .kind) REQ f), ne-eqb 0 a (λ d. nz (sym d))))
+    (λ f.
+    let g : isAnswer (x .kind) && eqb (x .to) m && copyIs (x .job) (x .replica) (x .thief) j q th ≡ true = rw f at e in
+    let to : x .to ≡ m = eqb-true (x .to) m (and-right (isAnswer (x .kind)) (eqb (x .to) m) (and-left (isAnswer (x .kind) && eqb (x .to) m) _ g)) in
+    rw (to, ne-eqb m a nm))
+
+module _ (t : Table) (a : ℕ) (w : Whole t) (al : a < 16) (nz : a ≢ 0) where
+  alive-not : (m : ℕ) → nodeAt (died t a) m .alive ≡ 1 → m ≢ a
+  alive-not m alive e =
+      let z : _≡_ {A = ℕ} 0 1 = sym (ap (λ (n : Machine). n .alive) (node-died t a (w .sized) al)) ∙ ap (λ (k : ℕ). nodeAt (died t a) k .alive) (sym e) ∙ alive in
+      omega arith
+
+  pub conserved-died : Conserved (died t a) (flight (died t a))
+  conserved-died m th j q ml tl alive told =
+      let e : m ≢ a = alive-not m alive in
+      let same : nodeAt (died t a) m ≡ nodeAt t m = node-died-other t a m e in
+      ap (count (about m th j q)) (flight-died t a)
+      ∙ count-keep (about m th j q) (notTo a) (flight t)
+      (every-map (MessageFacts t) (λ x. about m th j q x ≡ true → notTo a x ≡ true) (flight t)
+      (λ x f. about-kept m th j q a x nz e (λ k. f .root (rw k))) (w .facts .message))
+      ∙ w .conserved m th j q ml tl (sym (ap (λ (n : Machine). n .alive) same) ∙ alive) (sym (told-died t a m th) ∙ told)
+      ∙ ap (λ (n : Machine). ind (reserves n j q th)) (sym same)

@@ -1,0 +1,71 @@
+-- Clause C through sending and through updates that leave every reserved copy as it was.
+-- Assumes nothing.
+use mathlib.Core.Path.{_≡_, refl, sym, ap, _∙_}
+use mathlib.Core.Logic.{_≢_}
+use mathlib.Core.Bool.{Bool, true, false, false≢true}
+use mathlib.Core.List.{List, [], _∷_, _++_}
+use Prim.Native.Nat.{ℕ, _+_, _<_}
+use native.Mathlib.Omega.{arith}
+use Rattle.lists.proofs.Count.{ind, count, count-append}
+use Rattle.table.specs.declared.Machine.{Machine}
+use Rattle.table.specs.declared.Message.{Message}
+use Rattle.table.specs.declared.Table.{Table}
+use Rattle.table.specs.Views.{nodeAt, toldAt, messageAt, flight, withMessages}
+use Rattle.table.specs.Messages.{pull, send}
+use Rattle.table.specs.Parts.{reserves, REQ}
+use Rattle.table.proofs.Views.{Sized, views}
+use Rattle.invariant.proofs.State.{Conserved, about}
+use Rattle.invariant.proofs.Flight.{Apart, sends, takes, count-taken}
+use Rattle.invariant.proofs.Frame.{Frame}
+use Rattle.invariant.proofs.About.{plain, about-plain, about-dead}
+
+-- every machine of u has the copy reserved that it has in s
+abbrev pub SameReserved : Table → Table → Type 0
+SameReserved s u = (m j q th : ℕ) → reserves (nodeAt u m) j q th ≡ reserves (nodeAt s m) j q th
+
+-- another table with the same reserved copies, another list with as many messages about each
+pub conserved-frame : (s u : Table) (l k : List Message) → Frame s u → SameReserved s u
+    → ((m th j q : ℕ) → count (about m th j q) k ≡ count (about m th j q) l) → Conserved s l → Conserved u k
+conserved-frame s u l k f re ct c m th j q ml tl alive told =
+    ct m th j q ∙ c m th j q ml tl (sym (f .alive m) ∙ alive) (sym (f .told m th) ∙ told) ∙ ap ind (sym (re m j q th))
+
+-- a message that is about no copy does not count
+pub conserved-forget : (t : Table) (x : Message) (l : List Message) → plain (x .kind) ≡ true → Conserved t (x ∷ l) → Conserved t l
+conserved-forget t x l p c m th j q ml tl alive told = omega (arith, ap ind (about-plain m th j q x p), c m th j q ml tl alive told)
+
+pub conserved-add : (t : Table) (y : Message) (l : List Message) → plain (y .kind) ≡ true → Conserved t l → Conserved t (y ∷ l)
+conserved-add t y l p c m th j q ml tl alive told = omega (arith, ap ind (about-plain m th j q y p), c m th j q ml tl alive told)
+
+pub conserved-apart : Apart Conserved
+conserved-apart t n k l c = simp views c
+
+conserved-last : (t : Table) (x : Message) (l : List Message) → Conserved t (x ∷ l) → Conserved t (l ++ x ∷ [])
+conserved-last t x l c m th j q ml tl alive told = omega (arith, count-append (about m th j q) l (x ∷ []), c m th j q ml tl alive told)
+
+-- the message in hand is sent: it counts for a living receiver alone
+pub conserved-sends : (t : Table) (x : Message) → Sized t → t .«in_flight» < 128 → nodeAt t 0 .alive ≡ 1 → (x .kind ≡ REQ → x .to ≡ 0)
+    → Conserved t (x ∷ flight t) → Conserved (send t x) (flight (send t x))
+conserved-sends t x s l root asks =
+    sends Conserved conserved-apart t x s l
+    (conserved-last t x (flight t))
+    (λ d c m th j q ml tl alive told. omega (arith, ap ind (about-dead t x m th j q asks root d alive), c m th j q ml tl alive told))
+
+-- a message is taken off
+pub conserved-takes : (t : Table) (k : ℕ) → Sized t → k < t .«in_flight» → Conserved t (flight t) → Conserved (pull t k) (messageAt t k ∷ flight (pull t k))
+conserved-takes t k s h c =
+    takes t k s h Conserved conserved-apart (λ m th j q ml tl alive told. count-taken t k s h (about m th j q) ∙ c m th j q ml tl alive told)
+
+-- over the table s, an updated table u sends a message that is about no copy
+module _ (s u : Table) (y : Message) (f : Frame s u) (re : SameReserved s u) (room : s .«in_flight» < 128) (root : nodeAt s 0 .alive ≡ 1) (p : plain (y .kind) ≡ true) where
+  not-req : (x : Message) → plain (x .kind) ≡ true → x .kind ≡ REQ → ⊥
+  unfolding plain
+  not-req x q e = let z : _≡_ {A = Bool} false true = rw e at q in absurd (false≢true z)
+
+  pub conserved-plain : Conserved s (flight s) → Conserved (send u y) (flight (send u y))
+  conserved-plain c =
+      conserved-sends u y (f .sized) (omega (arith, f .used)) (f .alive 0 ∙ root) (λ e. absurd (not-req y p e))
+      (conserved-add u y (flight u) p (rw (f .flight) (conserved-frame s u (flight s) (flight s) f re (λ m th j q. refl) c)))
+
+-- no message is sent
+pub conserved-quiet : (s u : Table) → Frame s u → SameReserved s u → Conserved s (flight s) → Conserved u (flight u)
+conserved-quiet s u f re c = rw (f .flight) (conserved-frame s u (flight s) (flight s) f re (λ m th j q. refl) c)

@@ -1,0 +1,123 @@
+-- Clause X through Admit, Steal, Start, Done, Die and Notice: only Done sends a RESULT, with the price of the running job's terms.
+-- Assumes nothing.
+use mathlib.Core.Path.{_≡_, refl, sym, ap, _∙_}
+use mathlib.Core.Logic.{_≢_}
+use mathlib.Core.Bool.{Bool, true, false}
+use mathlib.Core.List.{List}
+use Prim.Native.Nat.{ℕ, _+_, _<_}
+use native.Mathlib.Omega.{arith}
+use lib.Dec.{eqb}
+use Rattle.pricer.specs.Price.{priceBits}
+use Rattle.lists.specs.Scan.{keep}
+use Rattle.lists.proofs.Cases.{byBool}
+use Rattle.lists.proofs.Count.{Every, every-map, every-keep}
+use Rattle.table.specs.declared.Job.{Job}
+use Rattle.table.specs.declared.Machine.{Machine}
+use Rattle.table.specs.declared.Message.{Message}
+use Rattle.table.specs.declared.Table.{Table}
+use Rattle.table.specs.Views.{bondAt, jobAt, nodeAt, poolAt, flight, withJob, withNode, withPool, enter}
+use Rattle.table.specs.Messages.{notTo, notFrom, send}
+use Rattle.table.specs.Parts.{opened, running, waiting, message, result, FISH, RESULT}
+use Rattle.table.proofs.Views.{Sized, views}
+use Rattle.events.specs.Events.{admitted, stolen, started, finished, died}
+use Rattle.events.specs.Notice.{lost, quieted, reissue, noticed}
+use Rattle.preservation.proofs.Sizes.{sized-quieted}
+use Rattle.invariant.proofs.State.{Prices, RightPrice, Whole}
+use Rattle.invariant.proofs.Frame.{Frame, frame-refl, frame-node, frame-pool, flight-enter, job-enter}
+use Rattle.invariant.proofs.About.{alive-running, alive-waiting, kind-message}
+use Rattle.invariant.proofs.Died.{job-died, flight-died}
+use Rattle.invariant.proofs.Quieted.{job-quieted, flight-quieted}
+use Rattle.invariant.proofs.Reissued.{reissuedJob, job-reissue, flight-reissue}
+use Rattle.invariant.proofs.Fixed.{fixed-bond, fixed-admitted, fixed-stolen, fixed-started, fixed-finished, fixed-died, fixed-noticed}
+use Rattle.invariant.proofs.PricesHandle.{PricesBy, prices-by, by-prices, by-send, by-frame, by-job}
+
+-- a RESULT with the price of its job's terms
+right-result : (t : Table) (a j r : ℕ) → RightPrice t (result a j r (priceBits (bondAt t j)))
+unfolding result
+right-result t a j r k = refl
+
+-- an open job shows no price
+open-unpriced : (r bits : ℕ) → opened r .state ≡ 2 → opened r .price ≡ bits
+unfolding opened
+open-unpriced r bits = λ (e : _≡_ {A = ℕ} 1 2). absurd (omega arith)
+
+-- a job that was issued again shows no price, any other the one it had
+reissued-price : (v : Job) (b bits : ℕ) → (v .state ≡ 2 → v .price ≡ bits) → reissuedJob v b .state ≡ 2 → reissuedJob v b .price ≡ bits
+unfolding reissuedJob
+reissued-price v b bits p = byBool (lost v b) (λ e. rw e (open-unpriced (v .replica + 1) bits)) (λ e. rw e p)
+
+module _ (t : Table) (w : Whole t) where
+  here : Frame t t
+  here = frame-refl t (w .sized)
+
+  p : PricesBy t t (flight t)
+  p = by-prices t (flight t) (w .prices)
+
+  right-admitted : (a : ℕ) → a < 64 → PricesBy t (admitted t a) (flight (admitted t a))
+  unfolding admitted
+  right-admitted a l =
+      let u = withJob t a (opened 1) in
+      let q : PricesBy t u (flight u) = by-job t a (opened 1) (w .sized) l (open-unpriced 1 (priceBits (bondAt t a))) p in
+      record { sent = rw (flight-enter u 0 a 1) (q .sent); shown = λ j h. rw (job-enter u 0 a 1 j) (q .shown j h) }
+
+  -- machine a's record is new, and y is sent
+  sent-node : (a : ℕ) (v : Machine) (y : Message) → a < 16 → t .«in_flight» < 128 → v .alive ≡ nodeAt t a .alive → RightPrice t y → PricesBy t (send (withNode t a v) y) (flight (send (withNode t a v) y))
+  sent-node a v y l room alive e =
+      let f : Frame t (withNode t a v) = frame-node t t here a v l alive in
+      by-send t (withNode t a v) y (f .sized) (omega (arith, f .used)) e (by-frame t _ f (λ j. simp views) p)
+
+  right-stolen : (a b : ℕ) → a < 16 → t .«in_flight» < 128 → PricesBy t (stolen t a b) (flight (stolen t a b))
+  unfolding stolen message
+  right-stolen a b l room = sent-node a _ _ l room (alive-waiting (nodeAt t a) (b + 1)) (λ (e : _≡_ {A = ℕ} 1 9). absurd (omega arith))
+
+  right-started : (a b : ℕ) → a < 16 → PricesBy t (started t a b) (flight (started t a b))
+  unfolding started
+  right-started a b l =
+      let u = withPool t a b 0 in
+      let v = running (nodeAt t a) b (poolAt t a b) in
+      by-frame t (withNode u a v) (frame-node t u (frame-pool t t here a b 0) a v l (alive-running (nodeAt t a) b (poolAt t a b))) (λ j. simp views) p
+
+  right-finished : (a : ℕ) → a < 16 → t .«in_flight» < 128 → PricesBy t (finished t a) (flight (finished t a))
+  unfolding finished
+  right-finished a l room =
+      let n = nodeAt t a in
+      sent-node a (running n 0 0) _ l room (alive-running n 0 0) (right-result t a (n .«running_job») (n .«running_replica»))
+
+  pub prices-admitted : (a : ℕ) → a < 64 → Prices (admitted t a) (flight (admitted t a))
+  prices-admitted a l = prices-by t (admitted t a) _ (λ j. fixed-admitted (λ u. bondAt u j) (fixed-bond j) t a) (right-admitted a l)
+
+  pub prices-stolen : (a b : ℕ) → a < 16 → t .«in_flight» < 128 → Prices (stolen t a b) (flight (stolen t a b))
+  prices-stolen a b l room = prices-by t (stolen t a b) _ (λ j. fixed-stolen (λ u. bondAt u j) (fixed-bond j) t a b) (right-stolen a b l room)
+
+  pub prices-started : (a b : ℕ) → a < 16 → Prices (started t a b) (flight (started t a b))
+  prices-started a b l = prices-by t (started t a b) _ (λ j. fixed-started (λ u. bondAt u j) (fixed-bond j) t a b) (right-started a b l)
+
+  pub prices-finished : (a : ℕ) → a < 16 → t .«in_flight» < 128 → Prices (finished t a) (flight (finished t a))
+  prices-finished a l room = prices-by t (finished t a) _ (λ j. fixed-finished (λ u. bondAt u j) (fixed-bond j) t a) (right-finished a l room)
+
+  -- some of the messages are dropped
+  fewer : (q : Message → Bool) → Every (RightPrice t) (keep q (flight t))
+  fewer q = every-map (λ x. RightPrice t x × (q x ≡ true)) (RightPrice t) (keep q (flight t)) (λ x e. e .0) (every-keep (RightPrice t) q (flight t) (p .sent))
+
+  pub prices-died : (a : ℕ) → Prices (died t a) (flight (died t a))
+  prices-died a =
+      prices-by t (died t a) _ (λ j. fixed-died (λ u. bondAt u j) (fixed-bond j) t a)
+      (record { sent = rw (flight-died t a) (fewer (notTo a)); shown = λ j h. rw (job-died t a j) (p .shown j h) })
+
+  quiet : (a b : ℕ) → PricesBy t (quieted t a b) (flight (quieted t a b))
+  quiet a b = record { sent = rw (flight-quieted t a b) (fewer (notFrom b a)); shown = λ j h. rw (job-quieted t a b j) (p .shown j h) }
+
+  right-noticed : (a b : ℕ) → PricesBy t (noticed t a b) (flight (noticed t a b))
+  unfolding noticed
+  right-noticed a b =
+      let s = quieted t a b in
+      let q = quiet a b in
+      byBool (eqb a 0)
+      (λ e. rw (e, noticed) (record {
+        sent = rw (flight-reissue s b) (q .sent);
+        shown = λ j h. rw (job-reissue s b (sized-quieted t (w .sized) a b) j h) (reissued-price (jobAt s j) b (priceBits (bondAt t j)) (q .shown j h));
+      }))
+      (λ e. rw (e, noticed) q)
+
+  pub prices-noticed : (a b : ℕ) → Prices (noticed t a b) (flight (noticed t a b))
+  prices-noticed a b = prices-by t (noticed t a b) _ (λ j. fixed-noticed (λ u. bondAt u j) (fixed-bond j) t a b) (right-noticed a b)

@@ -1,0 +1,197 @@
+-- Clause X through the nine handlers, and so through Deliver: a price comes from a RESULT, and only Done sends one.
+-- Assumes nothing.
+use mathlib.Core.Path.{_≡_, refl, sym, ap, _∙_}
+use mathlib.Core.Logic.{_≢_}
+use mathlib.Core.Bool.{Bool, true, false, not, cond, _&&_, _||_}
+use mathlib.Core.List.{List, [], _∷_, _++_}
+use Prim.Native.Nat.{ℕ, _+_, _<_}
+use native.Mathlib.Omega.{arith}
+use lib.Dec.{eqb, leb}
+use borrow.Author.Tests.{eqb-true}
+use Rattle.pricer.specs.Price.{priceBits}
+use Rattle.lists.proofs.Cases.{byBool, byEq}
+use Rattle.lists.proofs.Count.{Every, every-append, every-map}
+use Rattle.table.specs.declared.Job.{Job}
+use Rattle.table.specs.declared.Machine.{Machine}
+use Rattle.table.specs.declared.Message.{Message}
+use Rattle.table.specs.declared.Table.{Table}
+use Rattle.table.specs.Views.{bondAt, jobAt, nodeAt, poolAt, toldAt, messageAt, flight, withJob, withNode, withPool, withMessages, enter}
+use Rattle.table.specs.Messages.{pull, send, lowest}
+use Rattle.table.specs.Parts.{moved, placed, priced, reserve, release, waiting, reserves, returned, message, REQ, AUTH, DENIED, OBSOLETE, SCHEDULE, ACK, NOWORK, RESULT}
+use Rattle.table.proofs.Views.{Sized, views, job-same, job-other, flight-job, bond-messages}
+use Rattle.handlers.specs.Handlers.{noWork, grant, onFish, reply, onReq, onAuth, onDenied, onObsolete, onSchedule, onAck, onNoWork, onResult, handle}
+use Rattle.events.specs.Events.{delivered}
+use Rattle.invariant.proofs.State.{Prices, RightPrice, Hand, Whole}
+use Rattle.invariant.proofs.Hand.{hand}
+use Rattle.invariant.proofs.Flight.{Apart, sends, every-taken, takes}
+use Rattle.invariant.proofs.Frame.{Frame, frame-refl, frame-job, frame-node, frame-pool, frame-enter, frame-returned, job-enter}
+use Rattle.invariant.proofs.About.{alive-reserve, alive-release, alive-waiting, kind-message}
+use Rattle.invariant.proofs.Fixed.{fixed-bond, fixed-handle}
+
+-- clause X of u and l, by the terms that s has
+pub record PricesBy (s u : Table) (l : List Message) : Type 0 where
+  pub sent : Every (RightPrice s) l
+  pub shown : (j : ℕ) → j < 64 → jobAt u j .state ≡ 2 → jobAt u j .price ≡ priceBits (bondAt s j)
+
+-- u has the terms of s
+pub prices-by : (s u : Table) (l : List Message) → ((j : ℕ) → bondAt u j ≡ bondAt s j) → PricesBy s u l → Prices u l
+prices-by s u l e p = record {
+  sent = every-map (RightPrice s) (RightPrice u) l (λ x f k. f k ∙ sym (ap priceBits (e (x .job)))) (p .sent);
+  shown = λ j h o. p .shown j h o ∙ sym (ap priceBits (e j));
+}
+
+pub by-prices : (s : Table) (l : List Message) → Prices s l → PricesBy s s l
+by-prices s l p = record { sent = p .sent; shown = p .shown }
+
+-- ---- by the terms of one table s
+module _ (s : Table) where
+  by-apart : Apart (PricesBy s)
+  by-apart t n k l p = record { sent = p .sent; shown = simp views (p .shown) }
+
+  -- a message that is no RESULT, or carries the right price, is sent
+  pub by-send : (u : Table) (y : Message) → Sized u → u .«in_flight» < 128 → RightPrice s y → PricesBy s u (flight u) → PricesBy s (send u y) (flight (send u y))
+  by-send u y z room e p =
+      sends (PricesBy s) by-apart u y z room
+      (λ q. record { sent = every-append (RightPrice s) (flight u) y (q .sent .1) (q .sent .0); shown = q .shown })
+      (λ d q. record { sent = q .sent .1; shown = q .shown })
+      (record { sent = (e, p .sent); shown = p .shown })
+
+  -- no job and no message is new
+  pub by-frame : (u : Table) → Frame s u → ((j : ℕ) → jobAt u j ≡ jobAt s j) → PricesBy s s (flight s) → PricesBy s u (flight u)
+  by-frame u f e p = record { sent = rw (f .flight) (p .sent); shown = λ j h. rw (e j) (p .shown j h) }
+
+  -- job i is v
+  pub by-job : (i : ℕ) (v : Job) → Sized s → i < 64 → (v .state ≡ 2 → v .price ≡ priceBits (bondAt s i)) → PricesBy s s (flight s) → PricesBy s (withJob s i v) (flight (withJob s i v))
+  by-job i v z l e p = record {
+    sent = rw (flight-job s i v) (p .sent);
+    shown = λ j h. byEq j i (λ d. rw (d, job-same s z i v l) e) (λ d. rw (job-other s i j v d) (p .shown j h));
+  }
+
+module _ (s : Table) (x : Message) (h : Hand s x) (p : PricesBy s s (flight s)) (r : RightPrice s x) where
+  abbrev Right : Table → Type 0
+  Right u = PricesBy s u (flight u)
+
+  here : Frame s s
+  here = frame-refl s (h .sized)
+
+  -- a message of another kind than RESULT, from a table without new jobs
+  sent : (u : Table) (k f o j r th : ℕ) → Frame s u → Right u → (k ≡ RESULT → ⊥) → Right (send u (message k f o j r th))
+  sent u k f o j r th g q n = by-send s u (message k f o j r th) (g .sized) (omega (arith, g .used, h .room)) (λ e. absurd (n (sym (kind-message k f o j r th) ∙ e))) q
+
+  -- machine b's record is new, over a table with the jobs of s
+  sent-node : (u : Table) (v : Machine) (k o j r th : ℕ) → Frame s u → ((i : ℕ) → jobAt u i ≡ jobAt s i) → v .alive ≡ nodeAt s (x .to) .alive → (k ≡ RESULT → ⊥)
+      → Right (send (withNode u (x .to) v) (message k (x .to) o j r th))
+  sent-node u v k o j r th f e alive n =
+      let g : Frame s (withNode u (x .to) v) = frame-node s u f (x .to) v (h .message .to) alive in
+      sent (withNode u (x .to) v) k (x .to) o j r th g (by-frame s _ g (λ i. simp views (e i)) p) n
+
+  refuses : (o : ℕ) → Right (noWork s (x .to) o)
+  unfolding noWork
+  refuses o = sent s NOWORK (x .to) o 0 0 0 here p (λ (e : _≡_ {A = ℕ} 8 9). omega arith)
+
+  right-fish : Right (onFish s x)
+  unfolding onFish grant
+  right-fish =
+      let n = nodeAt s (x .to) in
+      let j = lowest s (x .to) in
+      byBool (not (eqb (n .«reserved_replica») 0))
+      (λ a. rw (a, onFish) (refuses (x .from)))
+      (λ a. byBool (leb 64 j)
+      (λ b. rw (a, b, onFish) (refuses (x .from)))
+      (λ b. rw (a, b, onFish) (sent-node (withPool s (x .to) j 0) (reserve n j (poolAt s (x .to) j) (x .from)) REQ 0 j (poolAt s (x .to) j) (x .from)
+      (frame-pool s s here (x .to) j 0) (λ i. simp views) (alive-reserve n j (poolAt s (x .to) j) (x .from)) (λ (e : _≡_ {A = ℕ} 2 9). omega arith))))
+
+  right-reply : (u : Table) (k : ℕ) → Frame s u → Right u → (k ≡ RESULT → ⊥) → Right (reply u x k)
+  unfolding reply
+  right-reply u k f q n = sent u k 0 (x .from) (x .job) (x .replica) (x .thief) f q n
+
+  right-moved : Right (withJob s (x .job) (moved (jobAt s (x .job)) (x .from) (x .thief)))
+  unfolding moved
+  right-moved = by-job s (x .job) _ (h .sized) (h .message .job) (p .shown (x .job) (h .message .job)) p
+
+  right-req : Right (onReq s x)
+  unfolding onReq
+  right-req =
+      byBool (eqb (jobAt s (x .job) .state) 2 || not (eqb (jobAt s (x .job) .replica) (x .replica)))
+      (λ a. rw (a, onReq) (right-reply s OBSOLETE here p (λ (e : _≡_ {A = ℕ} 5 9). omega arith)))
+      (λ a. byBool (not (eqb (toldAt s 0 (x .thief)) 0) || not (eqb (jobAt s (x .job) .moving) 0))
+      (λ b. rw (a, b, onReq) (right-reply s DENIED here p (λ (e : _≡_ {A = ℕ} 4 9). omega arith)))
+      (λ b. rw (a, b, onReq) (right-reply (withJob s (x .job) (moved (jobAt s (x .job)) (x .from) (x .thief))) AUTH (frame-job s s here (x .job) _) right-moved (λ (e : _≡_ {A = ℕ} 3 9). omega arith))))
+
+  released : (k j r : ℕ) → (k ≡ RESULT → ⊥) → Right (send (withNode s (x .to) (release (nodeAt s (x .to)))) (message k (x .to) (x .thief) j r 0))
+  released k j r n = sent-node s (release (nodeAt s (x .to))) k (x .thief) j r 0 here (λ i. refl) (alive-release (nodeAt s (x .to))) n
+
+  right-auth : Right (onAuth s x)
+  unfolding onAuth
+  right-auth =
+      byBool (reserves (nodeAt s (x .to)) (x .job) (x .replica) (x .thief))
+      (λ a. rw (a, onAuth) (released SCHEDULE (x .job) (x .replica) (λ (e : _≡_ {A = ℕ} 6 9). omega arith)))
+      (λ a. rw (a, onAuth) p)
+
+  right-obsolete : Right (onObsolete s x)
+  unfolding onObsolete noWork
+  right-obsolete =
+      byBool (reserves (nodeAt s (x .to)) (x .job) (x .replica) (x .thief))
+      (λ a. rw (a, onObsolete) (released NOWORK 0 0 (λ (e : _≡_ {A = ℕ} 8 9). omega arith)))
+      (λ a. rw (a, onObsolete) p)
+
+  right-denied : Right (onDenied s x)
+  unfolding onDenied noWork
+  right-denied =
+      let f : Frame s (returned s (x .to)) = frame-returned s (x .to) (h .sized) (h .message .to) in
+      byBool (reserves (nodeAt s (x .to)) (x .job) (x .replica) (x .thief))
+      (λ a. rw (a, onDenied) (sent (returned s (x .to)) NOWORK (x .to) (x .thief) 0 0 0 f (by-frame s _ f (unfold returned in λ i. simp (views, job-enter)) p) (λ (e : _≡_ {A = ℕ} 8 9). omega arith)))
+      (λ a. rw (a, onDenied) p)
+
+  right-schedule : Right (onSchedule s x)
+  unfolding onSchedule
+  right-schedule =
+      sent-node (enter s (x .to) (x .job) (x .replica)) (waiting (nodeAt s (x .to)) 0) ACK 0 (x .job) (x .replica) 0
+      (frame-enter s s here (x .to) (x .job) (x .replica)) (λ i. job-enter s (x .to) (x .job) (x .replica) i) (alive-waiting (nodeAt s (x .to)) 0) (λ (e : _≡_ {A = ℕ} 7 9). omega arith)
+
+  right-nowork : Right (onNoWork s x)
+  unfolding onNoWork
+  right-nowork = by-frame s _ (frame-node s s here (x .to) (waiting (nodeAt s (x .to)) 0) (h .message .to) (alive-waiting (nodeAt s (x .to)) 0)) (λ i. simp views) p
+
+  right-ack : Right (onAck s x)
+  unfolding onAck placed
+  right-ack =
+      byBool (eqb (jobAt s (x .job) .state) 1 && eqb (jobAt s (x .job) .replica) (x .replica))
+      (λ a. rw (a, onAck) (by-job s (x .job) _ (h .sized) (h .message .job) (p .shown (x .job) (h .message .job)) p))
+      (λ a. rw (a, onAck) p)
+
+  -- "an open job becomes priced with this price"
+  right-result : x .kind ≡ RESULT → Right (onResult s x)
+  unfolding onResult priced
+  right-result k =
+      byBool (eqb (jobAt s (x .job) .state) 1)
+      (λ a. rw (a, onResult) (by-job s (x .job) _ (h .sized) (h .message .job) (λ e. r k) p))
+      (λ a. rw (a, onResult) p)
+
+  right-handle : Right (handle s x)
+  unfolding handle
+  right-handle =
+      byBool (eqb (x .kind) 1) (λ a. rw (a, handle) right-fish)
+      (λ a1. byBool (eqb (x .kind) 2) (λ a. rw (a1, a, handle) right-req)
+      (λ a2. byBool (eqb (x .kind) 3) (λ a. rw (a1, a2, a, handle) right-auth)
+      (λ a3. byBool (eqb (x .kind) 4) (λ a. rw (a1, a2, a3, a, handle) right-denied)
+      (λ a4. byBool (eqb (x .kind) 5) (λ a. rw (a1, a2, a3, a4, a, handle) right-obsolete)
+      (λ a5. byBool (eqb (x .kind) 6) (λ a. rw (a1, a2, a3, a4, a5, a, handle) right-schedule)
+      (λ a6. byBool (eqb (x .kind) 7) (λ a. rw (a1, a2, a3, a4, a5, a6, a, handle) right-ack)
+      (λ a7. byBool (eqb (x .kind) 8) (λ a. rw (a1, a2, a3, a4, a5, a6, a7, a, handle) right-nowork)
+      (λ a8. byBool (eqb (x .kind) 9) (λ a. rw (a1, a2, a3, a4, a5, a6, a7, a8, a, handle) (right-result (eqb-true _ _ a)))
+      (λ a9. rw (a1, a2, a3, a4, a5, a6, a7, a8, a9, handle) p)))))))))
+
+pub prices-handle : (s : Table) (x : Message) → Hand s x → Prices s (x ∷ flight s) → Prices (handle s x) (flight (handle s x))
+prices-handle s x h p =
+    let q : PricesBy s s (flight s) = record { sent = p .sent .1; shown = p .shown } in
+    prices-by s (handle s x) (flight (handle s x)) (λ j. fixed-handle (λ t. bondAt t j) (fixed-bond j) s x) (right-handle s x h q (p .sent .0))
+
+prices-apart : Apart Prices
+prices-apart t n k l p = prices-by t (withMessages t n k) l (λ j. bond-messages t n k j) (by-apart t t n k l (by-prices t l p))
+
+pub prices-delivered : (t : Table) (k : ℕ) → Whole t → k < t .«in_flight» → Prices (delivered t k) (flight (delivered t k))
+unfolding delivered
+prices-delivered t k w l =
+    prices-handle (pull t k) (messageAt t k) (hand t k w l)
+    (takes t k (w .sized) l Prices prices-apart (record { sent = every-taken t k (w .sized) l (RightPrice t) (w .prices .sent); shown = w .prices .shown }))

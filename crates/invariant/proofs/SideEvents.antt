@@ -1,0 +1,99 @@
+-- Clauses D1, F, D2, R (reserved and running copies) and P through Admit, Steal, Start, Done and Die.
+-- Assumes nothing.
+use mathlib.Core.Path.{_≡_, refl, sym, ap, _∙_}
+use mathlib.Core.Logic.{_≢_}
+use mathlib.Core.Bool.{Bool, true, false, true≢false}
+use mathlib.Core.List.{List, [], _∷_}
+use Prim.Native.Nat.{ℕ, _+_, _≤_, _<_}
+use native.Mathlib.Omega.{arith}
+use Rattle.pricer.specs.Price.{priceBits}
+use Rattle.lists.specs.Scan.{keep}
+use Rattle.lists.proofs.Cases.{byEq}
+use Rattle.lists.proofs.Count.{Every, every-map, every-keep}
+use Rattle.table.specs.declared.Machine.{Machine}
+use Rattle.table.specs.declared.Message.{Message}
+use Rattle.table.specs.declared.Table.{Table}
+use Rattle.table.specs.Views.{noJob, noMachine, bondAt, jobAt, nodeAt, poolAt, toldAt, flight, withJob, withNode, withPool, enter}
+use Rattle.table.specs.Messages.{notTo, send}
+use Rattle.table.specs.Parts.{opened, running, waiting, message, result, FISH}
+use Rattle.table.proofs.Views.{Sized, views, node-same, node-other, node-pool, flight-job}
+use Rattle.events.specs.Events.{admitted, stolen, started, finished, died}
+use Rattle.invariant.proofs.State.{Side, Sender, Copies, Placed, Whole, isAnswer}
+use Rattle.invariant.proofs.Frame.{Frame, frame-refl, frame-job, frame-node, frame-pool, node-enter, job-enter, told-enter, flight-enter}
+use Rattle.invariant.proofs.About.{alive-running, alive-waiting}
+use Rattle.invariant.proofs.Died.{job-died, told-died, flight-died, node-died, node-died-other}
+use Rattle.invariant.proofs.SideFrame.{side-node, side-job, side-sends, copies-waiting, copies-running, copies-none, sender-message}
+
+module _ (t : Table) (w : Whole t) where
+  here : Frame t t
+  here = frame-refl t (w .sized)
+
+  -- nobody was told that a living machine is dead
+  untold : (o k : ℕ) → o < 16 → k < 16 → nodeAt t k .alive ≡ 1 → toldAt t o k ≡ 0
+  untold o k ol kl alive = byEq (toldAt t o k) 0 (λ e. e) (λ e. absurd (omega (arith, w .facts .told-dead o k ol kl e)))
+
+  -- machine a's record is v, over a table u that differs from t in pools and in that record
+  module _ (u : Table) (a : ℕ) (v : Machine) (f : Frame t u) (jobs : (j : ℕ) → jobAt u j ≡ jobAt t j)
+      (own : nodeAt u a ≡ v) (other : (m : ℕ) → m ≢ a → nodeAt u m ≡ nodeAt t m) (c : Copies t a v) where
+    stays : (k : List Message) → Every (Sender t) k → Side u k
+    stays k e = side-node t u (flight t) k a v (f .told) jobs own other c e (w .side)
+
+    sent : (y : Message) → t .«in_flight» < 128 → Sender t y → Side (send u y) (flight (send u y))
+    sent y room e = side-sends u y (f .sized) (omega (arith, f .used)) (rw (f .flight) (stays (y ∷ flight t) (e, w .side .sender)))
+
+  pub side-stolen : (a b : ℕ) → a < 16 → b < 16 → nodeAt t a .alive ≡ 1 → t .«in_flight» < 128 → Side (stolen t a b) (flight (stolen t a b))
+  unfolding stolen
+  side-stolen a b al bl alive room =
+      let n = nodeAt t a in
+      let v = waiting n (b + 1) in
+      sent (withNode t a v) a v (frame-node t t here a v al (alive-waiting n (b + 1))) (λ j. simp views)
+      (node-same t (w .sized) a v al) (λ m e. node-other t a m v e) (copies-waiting t a n (b + 1) (w .side .copies a al))
+      (message FISH a b 0 0 0) room
+      (sender-message t FISH a b 0 0 0 (λ e. absurd (true≢false (sym e ∙ unfold isAnswer in refl))) (untold b a bl al alive))
+
+  pub side-started : (a b : ℕ) → a < 16 → b < 64 → Side (started t a b) (flight (started t a b))
+  unfolding started
+  side-started a b al bl =
+      let n = nodeAt t a in
+      let r = poolAt t a b in
+      let v = running n b r in
+      let p = withPool t a b 0 in
+      let f : Frame t p = frame-pool t t here a b 0 in
+      let g : Frame t (withNode p a v) = frame-node t p f a v al (alive-running n b r) in
+      rw (g .flight) (stays (withNode p a v) a v g (λ j. simp views) (node-same p (f .sized) a v al) (λ m e. node-other p a m v e ∙ node-pool t a b 0 m)
+      (copies-running t a n b r (w .trip .pools a b al bl) (w .side .copies a al)) (flight t) (w .side .sender))
+
+  sender-result : (a j r bits : ℕ) → a < 16 → nodeAt t a .alive ≡ 1 → Sender t (result a j r bits)
+  unfolding result isAnswer
+  sender-result a j r bits al alive = record { root = λ (e : false ≡ true). absurd (true≢false (sym e)); untold = untold 0 a (omega arith) al alive }
+
+  pub side-finished : (a : ℕ) → a < 16 → nodeAt t a .alive ≡ 1 → t .«in_flight» < 128 → Side (finished t a) (flight (finished t a))
+  unfolding finished
+  side-finished a al alive room =
+      let n = nodeAt t a in
+      let v = running n 0 0 in
+      sent (withNode t a v) a v (frame-node t t here a v al (alive-running n 0 0)) (λ j. simp views)
+      (node-same t (w .sized) a v al) (λ m e. node-other t a m v e) (copies-running t a n 0 0 (omega arith) (w .side .copies a al))
+      (result a (n .«running_job») (n .«running_replica») (priceBits (bondAt t (n .«running_job»)))) room
+      (sender-result a (n .«running_job») (n .«running_replica») (priceBits (bondAt t (n .«running_job»))) al alive)
+
+  pub side-died : (a : ℕ) → a < 16 → Side (died t a) (flight (died t a))
+  side-died a al =
+      let k = keep (notTo a) (flight t) in
+      let f : Every (Sender t) k = every-map (λ x. Sender t x × (notTo a x ≡ true)) (Sender t) k (λ x e. e .0) (every-keep (Sender t) (notTo a) (flight t) (w .side .sender)) in
+      rw (flight-died t a) (side-node t (died t a) (flight t) k a noMachine (told-died t a) (job-died t a) (node-died t a (w .sized) al) (node-died-other t a) (copies-none t a) f (w .side))
+
+  placed-opened : (r : ℕ) → Placed t (opened r)
+  unfolding opened
+  placed-opened r = record { holder = λ e. untold 0 0 (omega arith) (omega arith) (w .facts .root); thief = λ e (f : _≡_ {A = ℕ} 0 1). absurd (omega arith) }
+
+  -- the job was not admitted: its replica number was 0
+  pub side-admitted : (a : ℕ) → a < 64 → jobAt t a .state ≡ 0 → Side (admitted t a) (flight (admitted t a))
+  unfolding admitted
+  side-admitted a al none =
+      let u = withJob t a (opened 1) in
+      let e : jobAt t a .replica ≡ 0 = rw (w .facts .job a al .none none) in
+      let s : Side u (flight t) = side-job t (flight t) (flight t) a (opened 1) (w .sized) al (omega arith) (placed-opened 1) (w .side .sender) (w .side) in
+      simp (flight-enter, flight-job)
+      (side-node u (enter u 0 a 1) (flight t) (flight t) 0 (nodeAt u 0) (λ m d. told-enter u 0 a 1 m d) (λ j. job-enter u 0 a 1 j) (node-enter u 0 a 1 0) (λ m d. node-enter u 0 a 1 m)
+      (s .copies 0 (omega arith)) (s .sender) s)

@@ -1,0 +1,166 @@
+-- Clauses D1, F, D2, R (reserved and running copies) and P through Notice: no machine that a is told of sends to it, has a copy reserved for it,
+-- and, where a is the root, has an open job.
+-- Assumes nothing.
+use mathlib.Core.Path.{_≡_, refl, sym, ap, _∙_}
+use mathlib.Core.Logic.{_≢_}
+use mathlib.Core.Bool.{Bool, true, false, not, cond, _&&_, _||_, true≢false}
+use mathlib.Core.List.{List, [], _∷_}
+use Prim.Native.Nat.{ℕ, _+_, _≤_, _<_}
+use native.Mathlib.Omega.{arith}
+use lib.Dec.{eqb, ltb}
+use borrow.Author.Tests.{eq-eqb, ne-eqb, eqb-true, eqb-false, ltb-true, ltb-false}
+use Rattle.lists.specs.Scan.{keep}
+use Rattle.lists.proofs.Cases.{byBool, byEq, byAnd}
+use Rattle.lists.proofs.Count.{Every, every-map, every-keep, every-zip}
+use Rattle.table.specs.declared.Job.{Job}
+use Rattle.table.specs.declared.Machine.{Machine}
+use Rattle.table.specs.declared.Message.{Message}
+use Rattle.table.specs.declared.Table.{Table}
+use Rattle.table.specs.Views.{jobAt, nodeAt, toldAt, flight}
+use Rattle.table.specs.Messages.{notFrom}
+use Rattle.table.specs.Parts.{opened, release, waiting}
+use Rattle.table.proofs.Views.{Sized}
+use Rattle.events.specs.Notice.{lost, quieted, reissue, noticed}
+use Rattle.preservation.proofs.Facts.{MessageFacts}
+use Rattle.preservation.proofs.Sizes.{sized-quieted}
+use Rattle.invariant.proofs.State.{Side, Sender, Copies, Placed, Whole}
+use Rattle.invariant.proofs.SideFrame.{copies-release, copies-waiting}
+use Rattle.invariant.proofs.Quieted.{reclaimedNode, unwaitedNode, quietedNode, job-quieted, flight-quieted, told-quieted-other, told-quieted-others, node-quieted, node-quieted-other}
+use Rattle.invariant.proofs.Reissued.{reissuedJob, node-reissue, told-reissue, flight-reissue, job-reissue, job-reissue-past}
+
+-- a job that is not lost names b neither as holder nor, while it moves, as thief
+kept-job : (v : Job) (b : ℕ) → lost v b ≡ false → v .state ≡ 1 → (v .holder ≢ b) × (v .moving ≡ 1 → v .thief ≢ b)
+kept-job v b e o =
+    let f : eqb (v .holder) b || eqb (v .moving) 1 && eqb (v .thief) b ≡ false = rw (eq-eqb (v .state) 1 o) at e in (
+      (λ d. true≢false (sym (ap (λ (c : Bool). c || eqb (v .moving) 1 && eqb (v .thief) b) (eq-eqb (v .holder) b d)) ∙ f)),
+      (λ m d. true≢false (sym (moves (eqb (v .holder) b) (eqb (v .moving) 1) (eqb (v .thief) b) (eq-eqb (v .moving) 1 m) (eq-eqb (v .thief) b d)) ∙ f)),
+    )
+  where
+    moves : (p q r : Bool) → q ≡ true → r ≡ true → p || q && r ≡ true
+    moves true q r a c = refl
+    moves false true r a c = c
+    moves false false r a c = absurd (true≢false (sym a))
+
+-- a job's replica number does not fall
+pub reissued-grows : (v : Job) (b : ℕ) → v .replica ≤ reissuedJob v b .replica
+unfolding reissuedJob opened
+reissued-grows v b = byBool (lost v b) (λ e. rw e (omega arith)) (λ e. rw e (omega arith))
+
+module _ (t : Table) (a b : ℕ) (w : Whole t) (al : a < 16) (bl : b < 16) (gone : nodeAt t b .alive ≢ 1) where
+  abbrev k : List Message
+  k = keep (notFrom b a) (flight t)
+
+  -- any table u in which a was told of b besides, with the machines of the table before the root's reissue
+  module _ (u : Table) (told : (m d : ℕ) → toldAt u m d ≡ toldAt (quieted t a b) m d) (grown : (j : ℕ) → jobAt t j .replica ≤ jobAt u j .replica)
+      (nodes : (m : ℕ) → nodeAt u m ≡ nodeAt (quieted t a b) m) where
+    -- only that a was told of b is new
+    told-same : (m d : ℕ) → d < 16 → (m ≡ a → d ≢ b) → toldAt u m d ≡ toldAt t m d
+    told-same m d dl n =
+        told m d ∙ byEq m a (λ e. told-quieted-other t a b m d bl dl (n e)) (λ e. told-quieted-others t a b m d bl dl e)
+
+    sender-u : (x : Message) → Sender t x × MessageFacts t x → notFrom b a x ≡ true → Sender u x
+    sender-u x f e = record {
+      root = f .0 .root;
+      untold = told-same (x .to) (x .from) (f .1 .from) (λ p q. true≢false (sym e ∙ rw (eq-eqb (x .from) b q, eq-eqb (x .to) a p))) ∙ f .0 .untold;
+    }
+
+    senders : Every (Sender u) k
+    senders =
+        every-map (λ x. (Sender t x × MessageFacts t x) × (notFrom b a x ≡ true)) (Sender u) (keep (notFrom b a) (flight t))
+        (λ x f. sender-u x (f .0) (f .1))
+        (every-keep (λ x. Sender t x × MessageFacts t x) (notFrom b a) (flight t) (every-zip (Sender t) (MessageFacts t) (flight t) (w .side .sender) (w .facts .message)))
+
+    copies-u : (m : ℕ) (n : Machine) → Copies t m n → n .«reserved_thief» < 16 → (n .«reserved_replica» ≢ 0 → m ≡ a → n .«reserved_thief» ≢ b) → Copies u m n
+    copies-u m n c l q = record {
+      reserved = omega (arith, c .reserved, grown (n .«reserved_job»));
+      running = omega (arith, c .running, grown (n .«running_job»));
+      untold = λ e. told-same m (n .«reserved_thief») l (q e) ∙ c .untold e;
+    }
+
+    -- once a copy for b is returned, none is for b
+    copies-reclaimed : (n : Machine) → Copies t a n → n .«reserved_thief» < 16 → Copies u a (reclaimedNode n b)
+    unfolding reclaimedNode
+    copies-reclaimed n c l =
+        byAnd (not (eqb (n .«reserved_replica») 0)) (eqb (n .«reserved_thief») b)
+        (λ p f e. rw e (copies-release u a n (omega (arith, c .running, grown (n .«running_job»)))))
+        (λ e. rw e (copies-u a n c l (λ p q d. true≢false (sym (rw (ne-eqb (n .«reserved_replica») 0 p, eq-eqb (n .«reserved_thief») b d)) ∙ e))))
+
+    copies-own : (n : Machine) → Copies t a n → n .«reserved_thief» < 16 → Copies u a (quietedNode n b)
+    unfolding quietedNode unwaitedNode
+    copies-own n c l =
+        let v = reclaimedNode n b in
+        byBool (eqb (v .waits) (b + 1))
+        (λ e. rw e (copies-waiting u a v 0 (copies-reclaimed n c l)))
+        (λ e. rw e (copies-reclaimed n c l))
+
+    copies-all : (m : ℕ) → m < 16 → Copies u m (nodeAt u m)
+    copies-all m l =
+        let c = w .side .copies m l in
+        let th : nodeAt t m .«reserved_thief» < 16 = w .facts .machine m l .reserved-thief in
+        rw (nodes m) (byEq m a
+        (λ e. rw e (rw (node-quieted t a b (w .sized) al) (copies-own (nodeAt t a) (w .side .copies a al) (w .facts .machine a al .reserved-thief))))
+        (λ e. rw (node-quieted-other t a b m e) (copies-u m (nodeAt t m) c th (λ p q. absurd (e q)))))
+
+    -- a place that does not name b where a is the root
+    placed-u : (v : Job) → v .holder < 16 → v .thief < 16 → Placed t v → (v .state ≡ 1 → 0 ≡ a → v .holder ≢ b) → (v .state ≡ 1 → v .moving ≡ 1 → 0 ≡ a → v .thief ≢ b) → Placed u v
+    placed-u v hl tl p q r = record {
+      holder = λ e. told-same 0 (v .holder) hl (q e) ∙ p .holder e;
+      thief = λ e f. told-same 0 (v .thief) tl (r e f) ∙ p .thief e f;
+    }
+
+    -- the root is not told of itself
+    placed-opened : (r : ℕ) → Placed u (opened r)
+    unfolding opened
+    placed-opened r = record {
+      holder = λ e. told-same 0 0 (omega arith) (λ p q. gone (ap (λ (i : ℕ). nodeAt t i .alive) (sym q) ∙ w .facts .root)) ∙ root-untold;
+      thief = λ e (f : _≡_ {A = ℕ} 0 1). absurd (omega arith);
+    }
+      where
+        root-untold : toldAt t 0 0 ≡ 0
+        root-untold = byEq (toldAt t 0 0) 0 (λ e. e) (λ e. absurd (omega (arith, w .facts .root, w .facts .told-dead 0 0 (omega arith) (omega arith) e)))
+
+    placed-reissued : (v : Job) → v .holder < 16 → v .thief < 16 → Placed t v → Placed u (reissuedJob v b)
+    unfolding reissuedJob
+    placed-reissued v hl tl p =
+        byBool (lost v b)
+        (λ e. rw e (placed-opened (v .replica + 1)))
+        (λ e. rw e (placed-u v hl tl p (λ o i. kept-job v b e o .0) (λ o m i. kept-job v b e o .1 m)))
+
+  -- ---- a machine other than the root is told
+
+  side-quieted : a ≢ 0 → Side (quieted t a b) k
+  side-quieted na =
+      let u = quieted t a b in
+      let grown : (j : ℕ) → jobAt t j .replica ≤ jobAt u j .replica = λ j. rw (job-quieted t a b j) (omega arith) in
+      record {
+        sender = senders u (λ m d. refl) grown (λ m. refl);
+        copies = copies-all u (λ m d. refl) grown (λ m. refl);
+        placed = λ j l.
+            let f = w .facts .job j l in
+            rw (job-quieted t a b j) (placed-u u (λ m d. refl) grown (λ m. refl) (jobAt t j) (f .holder) (f .thief) (w .side .placed j l) (λ e p. absurd (na (sym p))) (λ e g p. absurd (na (sym p))));
+      }
+
+  -- ---- the root is told, and issues the lost jobs again
+
+  side-reissued : Side (reissue (quieted t a b) b) k
+  side-reissued =
+      let q = quieted t a b in
+      let u = reissue q b in
+      let jobs : (j : ℕ) → j < 64 → jobAt u j ≡ reissuedJob (jobAt t j) b = λ j l. job-reissue q b (sized-quieted t (w .sized) a b) j l ∙ ap (λ (v : Job). reissuedJob v b) (job-quieted t a b j) in
+      let grown : (j : ℕ) → jobAt t j .replica ≤ jobAt u j .replica = λ j.
+      byBool (ltb j 64)
+      (λ e. rw (jobs j (ltb-true _ _ e)) (reissued-grows (jobAt t j) b))
+      (λ e. rw (job-reissue-past q b j (ltb-false _ _ e), job-quieted t a b j) (omega arith)) in
+      record {
+        sender = senders u (told-reissue q b) grown (node-reissue q b);
+        copies = copies-all u (told-reissue q b) grown (node-reissue q b);
+        placed = λ j l. rw (jobs j l) (placed-reissued u (told-reissue q b) grown (node-reissue q b) (jobAt t j) (w .facts .job j l .holder) (w .facts .job j l .thief) (w .side .placed j l));
+      }
+
+  pub side-noticed : Side (noticed t a b) (flight (noticed t a b))
+  unfolding noticed
+  side-noticed =
+      let q = quieted t a b in
+      byBool (eqb a 0)
+      (λ e. rw (e, noticed) (rw (flight-reissue q b, flight-quieted t a b) side-reissued))
+      (λ e. rw (e, noticed) (rw (flight-quieted t a b) (side-quieted (eqb-false a 0 e))))

@@ -1,0 +1,211 @@
+-- Check 9 through Notice: what every machine does, then the root's jobs, whose replica numbers were at most the bound before it rose by one.
+-- Assumes nothing.
+use Prim.Native.Nat.{ℕ, zero, suc, _+_, _≤_, _<_}
+use mathlib.Core.Path.{_≡_, refl, sym, ap, _∙_, subst}
+use mathlib.Core.Bool.{true, not, _&&_, _||_}
+use native.Mathlib.Omega.{arith}
+use borrow.Author.Tests.{eqb-true, eqb-false, not-true}
+use lib.Dec.{eqb}
+use Rattle.lists.specs.Scan.{upTo}
+use Rattle.lists.proofs.Cases.{byBool, and-left}
+use Rattle.table.specs.declared.Table.{Table}
+use Rattle.table.specs.declared.Job.{Job}
+use Rattle.table.specs.declared.Machine.{Machine}
+use Rattle.table.specs.Views.{jobAt, nodeAt, toldAt, enter}
+use Rattle.table.specs.Messages.{sift, notFrom}
+use Rattle.table.specs.Parts.{release, returned, waiting}
+use Rattle.table.proofs.Views.{Sized, views, alive-node}
+use Rattle.table.proofs.Messages.{sized-sift}
+use Rattle.elements.specs.Elements.{copyOk}
+use Rattle.validity.specs.Validity.{bound}
+use Rattle.events.specs.Notice.{informed, unwaited, reclaimed, quieted, lost, reissueOne, reissue, noticed}
+use Rattle.preservation.proofs.Ok.{Ok, machines-some, machines-most}
+use Rattle.preservation.proofs.Facts.{copy-job, copy-most, copy-is, state-job, job-copy}
+use Rattle.preservation.proofs.Updates.{wide, ok-sift}
+use Rattle.preservation.proofs.Told.{ok-told, bound-root}
+use Rattle.preservation.proofs.Sizes.{sized-informed, sized-reclaimed, sized-quieted, sized-reissueOne, sized-enter}
+use Rattle.preservation.proofs.Handled.{ok-waiting, ok-returned}
+use Rattle.preservation.proofs.Accepted.{ok-opened}
+
+-- ---- what reserved copy and wait leave as it was
+
+record Frame (t u : Table) : Type 0 where
+  job : (j : ℕ) → jobAt u j ≡ jobAt t j
+  most : bound u ≡ bound t
+  size : u .entries ≡ t .entries
+  alive : (k : ℕ) → nodeAt u k .alive ≡ nodeAt t k .alive
+
+same : (t : Table) → Frame t t
+same t = record { job = λ k. refl; most = refl; size = refl; alive = λ k. refl }
+
+returned-frame : (t : Table) (a : ℕ) → Sized t → a < 16 → Frame t (returned t a)
+unfolding returned enter
+returned-frame t a s h =
+    let v = nodeAt t a in
+    let j = v .«reserved_job» in
+    let r = v .«reserved_replica» in
+    record {
+      job = λ k. simp wide;
+      most = simp wide;
+      size = simp wide;
+      alive = λ k. alive-node (enter t a j r) a (release v) (sized-enter t a j r s) h (unfold release in simp views) k ∙ simp views;
+    }
+
+reclaimed-frame : (t : Table) (a b : ℕ) → Sized t → a < 16 → Frame t (reclaimed t a b)
+unfolding reclaimed
+reclaimed-frame t a b s h =
+    byBool (not (eqb (nodeAt t a .«reserved_replica») 0) && eqb (nodeAt t a .«reserved_thief») b)
+    (λ e. rw (e, reclaimed) (returned-frame t a s h))
+    (λ e. rw (e, reclaimed) (same t))
+
+unwaited-frame : (t : Table) (a b : ℕ) → Sized t → a < 16 → Frame t (unwaited t a b)
+unfolding unwaited
+unwaited-frame t a b s h =
+    byBool (eqb (nodeAt t a .waits) (b + 1))
+    (λ e. rw (e, unwaited) (record {
+      job = λ k. simp wide;
+      most = simp wide;
+      size = simp wide;
+      alive = λ k. alive-node t a (waiting (nodeAt t a) 0) s h (unfold waiting in refl) k;
+    }))
+    (λ e. rw (e, unwaited) (same t))
+
+-- ---- what every machine does
+
+module _ (t : Table) (s : Sized t) (o : Ok t) where
+  pub ok-informed : (a b : ℕ) → a < t .machines → b < t .machines → nodeAt t b .alive ≡ 0 → Ok (informed t a b)
+  unfolding informed
+  ok-informed a b h k d =
+      let few = machines-most t (o .sizes) in
+      ok-told (sift t (notFrom b a)) (sized-sift t s (notFrom b a)) (ok-sift t s o (notFrom b a)) a b (omega arith) (omega arith)
+      (unfold sift in simp views h) (unfold sift in simp views k) (unfold sift in simp views d)
+
+  pub ok-unwaited : (a b : ℕ) → a < 16 → nodeAt t a .alive ≡ 1 → Ok (unwaited t a b)
+  unfolding unwaited
+  ok-unwaited a b h al =
+      byBool (eqb (nodeAt t a .waits) (b + 1))
+      (λ e. rw (e, unwaited) (ok-waiting t s o a 0 h al (omega arith)))
+      (λ e. rw (e, unwaited) o)
+
+  pub ok-reclaimed : (a b : ℕ) → a < 16 → nodeAt t a .alive ≡ 1 → Ok (reclaimed t a b)
+  unfolding reclaimed
+  ok-reclaimed a b h al =
+      let q = nodeAt t a .«reserved_replica» in
+      let c = not (eqb q 0) in
+      let d = eqb (nodeAt t a .«reserved_thief») b in
+      byBool (c && d)
+      (λ e. rw (e, reclaimed) (ok-returned t s o a h al (eqb-false q 0 (not-true _ (and-left c d e)))))
+      (λ e. rw (e, reclaimed) o)
+
+module _ (t : Table) (s : Sized t) (a b : ℕ) where
+  node-informed : (k : ℕ) → nodeAt (informed t a b) k ≡ nodeAt t k
+  unfolding informed sift
+  node-informed k = simp views
+
+  job-informed : (k : ℕ) → jobAt (informed t a b) k ≡ jobAt t k
+  unfolding informed sift
+  job-informed k = simp views
+
+  entries-informed : informed t a b .entries ≡ t .entries
+  unfolding informed sift
+  entries-informed = simp views
+
+  -- reserved copy and wait together
+  quieted-frame : a < 16 → Frame (informed t a b) (quieted t a b)
+  unfolding quieted
+  quieted-frame h =
+      let u = informed t a b in
+      let us = sized-informed t s a b in
+      let f = reclaimed-frame u a b us h in
+      let g = unwaited-frame (reclaimed u a b) a b (sized-reclaimed u us a b) h in
+      record {
+        job = λ k. g .job k ∙ f .job k;
+        most = g .most ∙ f .most;
+        size = g .size ∙ f .size;
+        alive = λ k. g .alive k ∙ f .alive k;
+      }
+
+  pub ok-quieted : Ok t → a < t .machines → b < t .machines → nodeAt t a .alive ≡ 1 → nodeAt t b .alive ≡ 0 → Ok (quieted t a b)
+  unfolding quieted
+  ok-quieted o am bm al d =
+      let h : a < 16 = omega (arith, machines-most t (o .sizes)) in
+      let u = informed t a b in
+      let us = sized-informed t s a b in
+      let ua : nodeAt u a .alive ≡ 1 = ap (λ (n : Machine). n .alive) (node-informed a) ∙ al in
+      let uo = ok-reclaimed u us (ok-informed t s o a b am bm d) a b h ua in
+      ok-unwaited (reclaimed u a b) (sized-reclaimed u us a b) uo a b h (reclaimed-frame u a b us h .alive a ∙ ua)
+
+-- ---- the root's jobs
+
+-- what a turn of the loop keeps
+record Turn (t u : Table) : Type 0 where
+  good : Ok u
+  long : Sized u
+  most : bound u ≡ bound t
+  size : u .entries ≡ t .entries
+
+turn : (t u : Table) (v : Job) (b j : ℕ) → Turn t u → (lost v b ≡ true → copyOk (t .entries) (bound t) j (v .replica + 1) ≡ true) → Turn t (reissueOne v b j u)
+unfolding reissueOne enter
+turn t u v b j c f =
+    byBool (lost v b)
+    (λ e.
+    let r = v .replica + 1 in
+    let cp : copyOk (u .entries) (bound u) j r ≡ true = rw (c .most, c .size) (f e) in
+    rw (e, reissueOne) (record {
+      good = ok-opened u (c .long) (c .good) j r cp;
+      long = let z = sized-reissueOne u (c .long) v b j in rw (e, reissueOne) at z;
+      most = simp wide (c .most);
+      size = simp wide (c .size);
+    }))
+    (λ e. rw (e, reissueOne) c)
+
+module _ (t : Table) (b : ℕ) (s : Sized t) (o : Ok t) (f : (j : ℕ) → j < 64 → lost (jobAt t j) b ≡ true → copyOk (t .entries) (bound t) j (jobAt t j .replica + 1) ≡ true) where
+  turns : (n : ℕ) → n ≤ 64 → Turn t (upTo (λ j u. reissueOne (jobAt t j) b j u) n t)
+  unfolding upTo
+  turns zero h = record { good = o; long = s; most = refl; size = refl }
+  turns (suc n) h = turn t (upTo (λ j u. reissueOne (jobAt t j) b j u) n t) (jobAt t n) b n (turns n (omega arith)) (f n (omega arith))
+
+  pub ok-reissue : Ok (reissue t b)
+  unfolding reissue
+  ok-reissue = turns 64 (omega arith) .good
+
+-- ---- the root: it lives, and was not told of b before
+
+module _ (t : Table) (s : Sized t) (o : Ok t) (b : ℕ) (bm : b < t .machines) (d : nodeAt t b .alive ≡ 0) (new : toldAt t 0 b ≡ 0) where
+  b16 : b < 16
+  b16 = omega (arith, machines-most t (o .sizes))
+
+  bound-informed : bound (informed t 0 b) ≡ suc (bound t)
+  unfolding informed
+  bound-informed =
+      bound-root (sift t (notFrom b 0)) (sized-sift t s (notFrom b 0)) 0 b (omega arith) b16 refl (unfold sift in simp views new)
+      ∙ ap suc (unfold sift in simp wide)
+
+  ok-root : Ok (reissue (quieted t 0 b) b)
+  ok-root =
+      let u = quieted t 0 b in
+      let f = quieted-frame t s 0 b (omega arith) in
+      let uo = ok-quieted t s 0 b o (omega (arith, machines-some t (o .sizes))) bm (eqb-true _ _ (o .root)) d in
+      ok-reissue u b (sized-quieted t s 0 b) uo
+      (λ j h e.
+      let v = jobAt t j in
+      let jb : jobAt u j ≡ v = f .job j ∙ job-informed t s 0 b j in
+      let l : lost v b ≡ true = ap (λ (w : Job). lost w b) (sym jb) ∙ e in
+      let st : v .state ≡ 1 = eqb-true _ _ (and-left (eqb (v .state) 1) (eqb (v .holder) b || eqb (v .moving) 1 && eqb (v .thief) b) l) in
+      let c = job-copy (t .machines) (t .entries) (bound t) j v (o .job j h) (state-job (t .machines) (t .entries) (bound t) j v (λ z. omega arith)) in
+      let rp : jobAt u j .replica ≡ v .replica = ap (λ (w : Job). w .replica) jb in
+      let sz : u .entries ≡ t .entries = f .size ∙ entries-informed t s 0 b in
+      let bd : bound u ≡ suc (bound t) = f .most ∙ bound-informed in
+      copy-is (u .entries) (bound u) j (jobAt u j .replica + 1)
+      (omega (arith, copy-job (t .entries) (bound t) j (v .replica) c)) (omega arith) (omega (arith, copy-most (t .entries) (bound t) j (v .replica) c)))
+
+pub ok-noticed : (t : Table) → Sized t → Ok t → (a b : ℕ) → a < t .machines → b < t .machines
+    → nodeAt t a .alive ≡ 1 → nodeAt t b .alive ≡ 0 → toldAt t a b ≡ 0 → Ok (noticed t a b)
+unfolding noticed
+ok-noticed t s o a b am bm al d new =
+    byBool (eqb a 0)
+    (λ e.
+    let z : a ≡ 0 = eqb-true a 0 e in
+    let n0 : toldAt t 0 b ≡ 0 = ap (λ (k : ℕ). toldAt t k b) (sym z) ∙ new in
+    rw (e, noticed) (subst (λ (k : ℕ). Ok (reissue (quieted t k b) b)) (sym z) (ok-root t s o b bm d n0)))
+    (λ e. rw (e, noticed) (ok-quieted t s a b o am bm al d))

@@ -1,0 +1,40 @@
+-- A term that is read has a bond in range: the law by which crates above use the reader. Assumes nothing.
+use mathlib.Core.Path.{_≡_, refl, sym, subst}
+use mathlib.Core.Bool.{Bool, true, false, cond}
+use mathlib.Core.List.{List}
+use Prim.Native.Nat.{ℕ}
+use lib.Dec.{eqb}
+use lib.ListN.{length, getD}
+use Rattle.lists.proofs.Cases.{byBool}
+use Rattle.endian.specs.Endian.{le64}
+use Rattle.pricer.specs.Range.{inRange}
+use Rattle.pricer.specs.declared.Bond.{Bond}
+use Rattle.term.specs.declared.Reading.{Reading}
+use Rattle.term.specs.declared.Reading.the-variants.{Faulty, Valid}
+use Rattle.term.specs.Term.{checked, termFrom, termOf}
+
+-- what is read, if anything, is in range
+abbrev Fine : Reading → Type 0
+Fine Faulty = Unit {0}
+Fine (Valid b) = inRange b ≡ true
+
+either : (t : Bool) (x y : Reading) → Fine x → Fine y → Fine (cond t x y)
+either true x y a b = a
+either false x y a b = b
+
+checked-fine : (b : Bond) → Fine (checked b)
+unfolding checked
+checked-fine b = byBool (inRange b) (λ e. rw e e) (λ e. rw e tt)
+
+from-fine : (k n c y : ℕ) → Fine (termFrom k n c y)
+unfolding termFrom
+from-fine k n c y =
+    either (eqb k 1) _ _ (either (eqb c 0) _ Faulty (checked-fine _) tt) (either (eqb k 2) _ Faulty (checked-fine _) tt)
+
+term-fine : (s : List ℕ) → Fine (termOf s)
+unfolding termOf
+term-fine s =
+    either (eqb (length s) 19) _ Faulty (either (eqb (getD s 2 0) 0) _ Faulty (from-fine (getD s 0 0) (getD s 1 0) (le64 s 3) (le64 s 11)) tt) tt
+
+pub read-in-range : (s : List ℕ) (b : Bond) → termOf s ≡ Valid b → inRange b ≡ true
+read-in-range s b e = subst Fine e (term-fine s)
