@@ -1,7 +1,7 @@
 -- Each event's answer, accepted or refused, is again a table whose arrays have their lengths and that has check 9's facts. What refusal 11 tests of the event's
 -- numbers is a premise; the other refusals are the tests of each definition.
 -- Assumes nothing.
-use Prim.Native.Nat.{ℕ, _≤_, _<_}
+use Prim.Native.Nat.{ℕ, _<_}
 use mathlib.Core.Path.{_≡_}
 use mathlib.Core.Bool.{false, not}
 use native.Mathlib.Omega.{arith}
