@@ -48,3 +48,33 @@ pub struct Answer {
     pub number: u8,
     pub table: Table,
 }
+
+// The kinds of a message, named as in document 01.
+pub const FISH: u8 = 1;
+
+pub const REQ: u8 = 2;
+
+pub const AUTH: u8 = 3;
+
+pub const DENIED: u8 = 4;
+
+pub const OBSOLETE: u8 = 5;
+
+pub const SCHEDULE: u8 = 6;
+
+pub const ACK: u8 = 7;
+
+pub const NOWORK: u8 = 8;
+
+pub const RESULT: u8 = 9;
+
+// What an unused slot holds.
+pub const NO_MESSAGE: Message = Message {
+    kind: 0,
+    from: 0,
+    to: 0,
+    job: 0,
+    replica: 0,
+    thief: 0,
+    price: 0,
+};
