@@ -27,17 +27,17 @@ valid-passes t v = passes t (v .sized) (v .ok)
 
 -- what refusal 11 has tested, by code
 module _ (t : Table) (code a b : ℕ) (g : numbered t code a b ≡ true) where
-  entry-in : eqb code 1 ≡ true → a < t .entries
+  pub entry-in : eqb code 1 ≡ true → a < t .entries
   unfolding numbered
   entry-in e = ltb-true a (t .entries) (rw e at g)
 
-  start-in : eqb code 1 ≡ false → eqb code 4 ≡ true → (a < t .machines) × (b < t .entries)
+  pub start-in : eqb code 1 ≡ false → eqb code 4 ≡ true → (a < t .machines) × (b < t .entries)
   unfolding numbered
   start-in e f =
       let h : ltb a (t .machines) && ltb b (t .entries) ≡ true = rw (e, f) at g in
       (ltb-true _ _ (and-left (ltb a (t .machines)) (ltb b (t .entries)) h), ltb-true _ _ (and-right (ltb a (t .machines)) (ltb b (t .entries)) h))
 
-  machines-in : eqb code 1 ≡ false → eqb code 4 ≡ false → (a < t .machines) × (b < t .machines)
+  pub machines-in : eqb code 1 ≡ false → eqb code 4 ≡ false → (a < t .machines) × (b < t .machines)
   unfolding numbered
   machines-in e f =
       let h : ltb a (t .machines) && ltb b (t .machines) ≡ true = rw (e, f) at g in

@@ -1,2 +1,4 @@
 pub mod Kept
 pub mod Nine
+pub mod Ready
+pub mod Form
