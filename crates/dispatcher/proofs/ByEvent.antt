@@ -2,12 +2,12 @@
 -- Assumes nothing.
 use mathlib.Core.Path.{_≡_}
 use mathlib.Core.Logic.{_≢_}
-use mathlib.Core.Bool.{true, false, not, _&&_}
+use mathlib.Core.Bool.{true, false, not}
 use mathlib.Core.List.{List, [], _∷_}
 use Prim.Native.Nat.{ℕ, _<_}
-use borrow.Author.Tests.{eqb-true, eqb-false, ltb-true, leb-false, not-false}
-use lib.Dec.{eqb, leb, ltb}
-use Rattle.lists.proofs.Cases.{byBool, and-left, and-right}
+use borrow.Author.Tests.{eqb-true, eqb-false, leb-false, not-false}
+use lib.Dec.{eqb, leb}
+use Rattle.lists.proofs.Cases.{byBool}
 use Rattle.table.specs.declared.Table.{Table}
 use Rattle.table.specs.Views.{jobAt, nodeAt, poolAt, toldAt}
 use Rattle.table.specs.Messages.{oldest}
@@ -15,6 +15,7 @@ use Rattle.table.specs.Parts.{lives}
 use Rattle.validity.specs.Validity.{tableOk}
 use Rattle.events.specs.Events.{admitted, stolen, delivered, started, finished, died, admitOf, stealOf, deliverOf, startOf, doneOf, dieOf}
 use Rattle.events.specs.Notice.{noticed, noticeOf}
+use Rattle.dispatcher.proofs.Numbers.{entry-in, start-in, machines-in}
 use Rattle.dispatcher.specs.Step.{codeOf, firstOf, secondOf, formed, numbered, eventOf, answerOf, stepOf, runOf}
 
 -- each accepted event keeps P; the premises are what the refusals have tested
@@ -33,10 +34,6 @@ alive t m e = eqb-true (nodeAt t m .alive) 1 (not-false (lives t m) e)
 
 zero-is : (n : ℕ) → not (eqb n 0) ≡ false → n ≡ 0
 zero-is n e = eqb-true n 0 (not-false (eqb n 0) e)
-
--- what refusal 11 has tested: of two numbers that are within their limits
-both : (a b m n : ℕ) → ltb a m && ltb b n ≡ true → (a < m) × (b < n)
-both a b m n h = (ltb-true a m (and-left (ltb a m) (ltb b n) h), ltb-true b n (and-right (ltb a m) (ltb b n) h))
 
 module _ (P : Table → Type 0) (keeps : Kept P) (t : Table) (p : P t) where
   by-admit : (a : ℕ) → a < t .entries → P (admitOf t a .table)
@@ -95,17 +92,17 @@ module _ (P : Table → Type 0) (keeps : Kept P) (t : Table) (p : P t) where
       (λ e3. rw (e1, e2, e3, noticeOf) (keeps .notices t a b p (l .0) (l .1) (alive t a e1) (eqb-false (nodeAt t b .alive) 1 e2) (zero-is (toldAt t a b) e3)))))
 
   by-event : (code a b : ℕ) → numbered t code a b ≡ true → P (eventOf t code a b .table)
-  unfolding eventOf numbered
+  unfolding eventOf
   by-event code a b g =
-      byBool (eqb code 1) (λ e. rw (e, eventOf) (by-admit a (ltb-true a (t .entries) (rw e at g))))
+      byBool (eqb code 1) (λ e. rw (e, eventOf) (by-admit a (entry-in t code a b g e)))
       (λ e1. byBool (eqb code 2)
       (λ e.
       let e4 : eqb code 4 ≡ false = rw (eqb-true code 2 e) in
-      rw (e1, e, eventOf) (by-steal a b (both a b (t .machines) (t .machines) (rw (e1, e4) at g))))
+      rw (e1, e, eventOf) (by-steal a b (machines-in t code a b g e1 e4)))
       (λ e2. byBool (eqb code 3) (λ e. rw (e1, e2, e, eventOf) (by-deliver a b))
-      (λ e3. byBool (eqb code 4) (λ e. rw (e1, e2, e3, e, eventOf) (by-start a b (both a b (t .machines) (t .entries) (rw (e1, e) at g))))
+      (λ e3. byBool (eqb code 4) (λ e. rw (e1, e2, e3, e, eventOf) (by-start a b (start-in t code a b g e1 e)))
       (λ e4.
-      let l : (a < t .machines) × (b < t .machines) = both a b (t .machines) (t .machines) (rw (e1, e4) at g) in
+      let l = machines-in t code a b g e1 e4 in
       byBool (eqb code 5) (λ e. rw (e1, e2, e3, e4, e, eventOf) (by-done a (l .0)))
       (λ e5. byBool (eqb code 6) (λ e. rw (e1, e2, e3, e4, e5, e, eventOf) (by-die a (l .0)))
       (λ e6. rw (e1, e2, e3, e4, e5, e6, eventOf) (by-notice a b l)))))))

@@ -40,15 +40,12 @@ pub fn admit(t: Table, a: u8) -> Answer
     let j = a as usize;
     let job = t.jobs[j];
     if job.state != 0 {
-        return Answer {
-            number: 13,
-            table: t,
-        };
+        return table::refuse(13, t);
     }
-    let u = open(t, j, 1);
+    let opened = open(t, j, 1);
     Answer {
         number: 0,
-        table: u,
+        table: opened,
     }
 }
 
@@ -84,40 +81,26 @@ pub fn steal(t: Table, a: u8, b: u8) -> Answer
 {
     let n = t.nodes[a as usize];
     if n.alive != 1 {
-        return Answer {
-            number: 12,
-            table: t,
-        };
+        return table::refuse(12, t);
     }
     if a == b {
-        return Answer {
-            number: 14,
-            table: t,
-        };
+        return table::refuse(14, t);
     }
     if n.waits != 0 {
-        return Answer {
-            number: 14,
-            table: t,
-        };
+        return table::refuse(14, t);
     }
     let told = messages::told_at(t, a as usize, b as usize);
     if told != 0 {
-        return Answer {
-            number: 14,
-            table: t,
-        };
+        return table::refuse(14, t);
     }
-    if 128 <= t.in_flight {
-        return Answer {
-            number: 16,
-            table: t,
-        };
+    let used = t.in_flight;
+    if 128 <= used {
+        return table::refuse(16, t);
     }
-    let u = stolen(t, a, b);
+    let sent = stolen(t, a, b);
     Answer {
         number: 0,
-        table: u,
+        table: sent,
     }
 }
 
@@ -129,10 +112,7 @@ pub fn deliver(t: Table, a: u8, b: u8) -> Answer
     let k = messages::oldest(t, a, b);
     let n = t.in_flight as usize;
     if n <= k {
-        return Answer {
-            number: 15,
-            table: t,
-        };
+        return table::refuse(15, t);
     }
     let m = t.messages[k];
     let u = messages::pull(t, k);
@@ -166,23 +146,14 @@ pub fn start(t: Table, a: u8, b: u8) -> Answer
 {
     let n = t.nodes[a as usize];
     if n.alive != 1 {
-        return Answer {
-            number: 12,
-            table: t,
-        };
+        return table::refuse(12, t);
     }
     if n.running_replica != 0 {
-        return Answer {
-            number: 17,
-            table: t,
-        };
+        return table::refuse(17, t);
     }
     let r = t.pools[(a as usize) * 64 + (b as usize)];
     if r == 0 {
-        return Answer {
-            number: 18,
-            table: t,
-        };
+        return table::refuse(18, t);
     }
     let u = started(t, a, b);
     Answer {
@@ -228,22 +199,13 @@ pub fn done(t: Table, a: u8) -> Answer
 {
     let n = t.nodes[a as usize];
     if n.alive != 1 {
-        return Answer {
-            number: 12,
-            table: t,
-        };
+        return table::refuse(12, t);
     }
     if n.running_replica == 0 {
-        return Answer {
-            number: 19,
-            table: t,
-        };
+        return table::refuse(19, t);
     }
     if 128 <= t.in_flight {
-        return Answer {
-            number: 16,
-            table: t,
-        };
+        return table::refuse(16, t);
     }
     let u = finished(t, a);
     Answer {
@@ -277,17 +239,11 @@ pub fn die(t: Table, a: u8) -> Answer
     ensures { λ r. ⌜ r ≡ dieOf t a ⌝ }
 {
     if a == 0 {
-        return Answer {
-            number: 20,
-            table: t,
-        };
+        return table::refuse(20, t);
     }
     let n = t.nodes[a as usize];
     if n.alive != 1 {
-        return Answer {
-            number: 12,
-            table: t,
-        };
+        return table::refuse(12, t);
     }
     let u = died(t, a);
     Answer {

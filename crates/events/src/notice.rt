@@ -104,24 +104,15 @@ pub fn notice(t: Table, a: u8, b: u8) -> Answer
 {
     let n = t.nodes[a as usize];
     if n.alive != 1 {
-        return Answer {
-            number: 12,
-            table: t,
-        };
+        return table::refuse(12, t);
     }
     let d = t.nodes[b as usize];
     if d.alive == 1 {
-        return Answer {
-            number: 21,
-            table: t,
-        };
+        return table::refuse(21, t);
     }
     let told = messages::told_at(t, a as usize, b as usize);
     if told != 0 {
-        return Answer {
-            number: 22,
-            table: t,
-        };
+        return table::refuse(22, t);
     }
     let u = noticed(t, a, b);
     Answer {

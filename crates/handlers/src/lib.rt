@@ -173,8 +173,8 @@ pub fn on_denied(t: Table, m: Message) -> Table
     let b = m.to as usize;
     let n = t.nodes[b];
     if reserves(n, m.job, m.replica, m.thief) {
-        let u = messages::returned(t, b);
-        return no_work(u, m.to, m.thief);
+        let back = messages::returned(t, b);
+        return no_work(back, m.to, m.thief);
     }
     t
 }
@@ -187,8 +187,8 @@ pub fn on_obsolete(t: Table, m: Message) -> Table
     let b = m.to as usize;
     let n = t.nodes[b];
     if reserves(n, m.job, m.replica, m.thief) {
-        let u = released(t, b);
-        return no_work(u, m.to, m.thief);
+        let rest = released(t, b);
+        return no_work(rest, m.to, m.thief);
     }
     t
 }
@@ -199,10 +199,10 @@ pub fn on_schedule(t: Table, m: Message) -> Table
     ensures { λ r. ⌜ r ≡ onSchedule t m ⌝ }
 {
     let b = m.to as usize;
-    let mut n = t.nodes[b];
-    n.waits = 0;
+    let mut thief = t.nodes[b];
+    thief.waits = 0;
     let mut u = messages::enter(t, b, m.job as usize, m.replica);
-    u.nodes[b] = n;
+    u.nodes[b] = thief;
     messages::send(
         u,
         Message {
@@ -222,10 +222,10 @@ pub fn on_no_work(t: Table, m: Message) -> Table
     ensures { λ r. ⌜ r ≡ onNoWork t m ⌝ }
 {
     let b = m.to as usize;
-    let mut n = t.nodes[b];
-    n.waits = 0;
+    let mut idle = t.nodes[b];
+    idle.waits = 0;
     let mut u = t;
-    u.nodes[b] = n;
+    u.nodes[b] = idle;
     u
 }
 

@@ -30,6 +30,11 @@ pub about-plain : (m th j q : ℕ) (x : Message) → plain (x .kind) ≡ true �
 unfolding about plain
 about-plain m th j q x p = plain-bool (eqb (x .kind) 2) (eqb (x .from) m) (isAnswer (x .kind)) (eqb (x .to) m) _ p
 
+-- and is no REQ
+pub plain-not : (x : Message) → plain (x .kind) ≡ true → x .kind ≡ REQ → ⊥
+unfolding plain
+plain-not x p e = let z : _≡_ {A = Bool} false true = rw e at p in false≢true z
+
 pub about-req : (b j₀ r₀ th₀ m th j q : ℕ) → about m th j q (message REQ b 0 j₀ r₀ th₀) ≡ eqb b m && copyIs j₀ r₀ th₀ j q th
 unfolding about message
 about-req b j₀ r₀ th₀ m th j q = refl

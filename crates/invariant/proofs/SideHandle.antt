@@ -8,7 +8,7 @@ use Prim.Native.Nat.{ℕ, _≤_, _<_}
 use native.Mathlib.Omega.{arith}
 use lib.Dec.{eqb, leb}
 use borrow.Author.Tests.{eqb-true, leb-false}
-use Rattle.lists.proofs.Cases.{byBool, byEq}
+use Rattle.lists.proofs.Cases.{byBool}
 use Rattle.lists.proofs.Count.{Every}
 use Rattle.table.specs.declared.Machine.{Machine}
 use Rattle.table.specs.declared.Message.{Message}
@@ -24,7 +24,7 @@ use Rattle.invariant.proofs.Hand.{hand}
 use Rattle.invariant.proofs.ByKind.{by-kind}
 use Rattle.invariant.proofs.Frame.{Frame, frame-refl, frame-job, frame-node, frame-pool, frame-enter, frame-returned, node-returned, node-returned-other, node-enter, job-enter}
 use Rattle.invariant.proofs.About.{alive-reserve, alive-release, alive-waiting}
-use Rattle.invariant.proofs.SideFrame.{side-node, side-job, side-list, side-sends, side-takes, copies-release, copies-waiting, copies-reserve, sender-message}
+use Rattle.invariant.proofs.SideFrame.{side-node, side-job, side-list, side-sends, side-takes, copies-release, copies-waiting, copies-reserve, living-untold, sender-message}
 
 module _ (s : Table) (x : Message) (h : Hand s x) (pools : (m j : ℕ) → m < 16 → j < 64 → poolAt s m j ≤ jobAt s j .replica) (d : Side s (x ∷ flight s)) where
   abbrev Sides : Table → Type 0
@@ -33,16 +33,12 @@ module _ (s : Table) (x : Message) (h : Hand s x) (pools : (m j : ℕ) → m < 1
   here : Frame s s
   here = frame-refl s (h .sized)
 
-  -- nobody was told that a living machine is dead
-  untold : (o k : ℕ) → o < 16 → k < 16 → nodeAt s k .alive ≡ 1 → toldAt s o k ≡ 0
-  untold o k ol kl alive = byEq (toldAt s o k) 0 (λ e. e) (λ e. absurd (omega (arith, h .facts .told-dead o k ol kl e)))
-
   own-copies : Copies s (x .to) (nodeAt s (x .to))
   own-copies = d .copies (x .to) (h .message .to)
 
   -- a message of the receiver to a machine o
   from-own : (k o j r th : ℕ) → isAnswer k ≡ false → o < 16 → Sender s (message k (x .to) o j r th)
-  from-own k o j r th n l = sender-message s k (x .to) o j r th (λ e. absurd (true≢false (sym e ∙ n))) (untold o (x .to) l (h .message .to) (h .message .alive))
+  from-own k o j r th n l = sender-message s k (x .to) o j r th (λ e. absurd (true≢false (sym e ∙ n))) (living-untold s (h .facts) o (x .to) l (h .message .to) (h .message .alive))
 
   -- nothing is sent
   gone : Sides s
@@ -110,7 +106,7 @@ module _ (s : Table) (x : Message) (h : Hand s x) (pools : (m j : ℕ) → m < 1
 
   -- the root's answer
   from-root : (k : ℕ) → Sender s (message k 0 (x .from) (x .job) (x .replica) (x .thief))
-  from-root k = sender-message s k 0 (x .from) (x .job) (x .replica) (x .thief) (λ e. refl) (untold (x .from) 0 (h .message .from) (omega arith) (h .facts .root))
+  from-root k = sender-message s k 0 (x .from) (x .job) (x .replica) (x .thief) (λ e. refl) (living-untold s (h .facts) (x .from) 0 (h .message .from) (omega arith) (h .facts .root))
 
   side-reply : (k : ℕ) → Sides (reply s x k)
   unfolding reply

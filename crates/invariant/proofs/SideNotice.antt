@@ -23,7 +23,7 @@ use Rattle.events.specs.Notice.{lost, quieted, reissue, noticed}
 use Rattle.preservation.proofs.Facts.{MessageFacts}
 use Rattle.preservation.proofs.Sizes.{sized-quieted}
 use Rattle.invariant.proofs.State.{Side, Sender, Copies, Placed, Whole}
-use Rattle.invariant.proofs.SideFrame.{copies-release, copies-waiting}
+use Rattle.invariant.proofs.SideFrame.{copies-release, copies-waiting, living-untold}
 use Rattle.invariant.proofs.Quieted.{reclaimedNode, unwaitedNode, quietedNode, job-quieted, flight-quieted, told-quieted-other, told-quieted-others, node-quieted, node-quieted-other}
 use Rattle.invariant.proofs.Reissued.{reissuedJob, node-reissue, told-reissue, flight-reissue, job-reissue, job-reissue-past}
 
@@ -111,12 +111,9 @@ module _ (t : Table) (a b : ℕ) (w : Whole t) (al : a < 16) (bl : b < 16) (gone
     placed-opened : (r : ℕ) → Placed u (opened r)
     unfolding opened
     placed-opened r = record {
-      holder = λ e. told-same 0 0 (omega arith) (λ p q. gone (ap (λ (i : ℕ). nodeAt t i .alive) (sym q) ∙ w .facts .root)) ∙ root-untold;
+      holder = λ e. told-same 0 0 (omega arith) (λ p q. gone (ap (λ (i : ℕ). nodeAt t i .alive) (sym q) ∙ w .facts .root)) ∙ living-untold t (w .facts) 0 0 (omega arith) (omega arith) (w .facts .root);
       thief = λ e (f : _≡_ {A = ℕ} 0 1). absurd (omega arith);
     }
-      where
-        root-untold : toldAt t 0 0 ≡ 0
-        root-untold = byEq (toldAt t 0 0) 0 (λ e. e) (λ e. absurd (omega (arith, w .facts .root, w .facts .told-dead 0 0 (omega arith) (omega arith) e)))
 
     placed-reissued : (v : Job) → v .holder < 16 → v .thief < 16 → Placed t v → Placed u (reissuedJob v b)
     unfolding reissuedJob

@@ -1,5 +1,7 @@
 // The table: one struct with flat arrays for bonds, jobs, machines, pools and messages. It is passed and returned by value.
 // What each field holds is listed at the head of specs/Views.antt. What is unused is 0 throughout.
+ghost use mathlib.Core.Path.{_≡_};
+ghost use Rattle.table.specs.Views.{refuse};
 use pricer::Bond;
 
 pub struct Job {
@@ -47,6 +49,16 @@ pub struct Table {
 pub struct Answer {
     pub number: u8,
     pub table: Table,
+}
+
+// "A refusal returns its number; table and buffers are unchanged"
+pub fn refuse(number: u8, t: Table) -> Answer
+    ensures { λ r. ⌜ r ≡ refuse number t ⌝ }
+{
+    Answer {
+        number: number,
+        table: t,
+    }
 }
 
 // The kinds of a message, named as in document 01.

@@ -13,6 +13,9 @@ mul-job c = search needs
 element-copy-out-job : tie.Need-element-copy-out-job
 element-copy-out-job c = search needs
 
+refuse-requires : tie.Need-refuse-requires
+refuse-requires c κs = search needs
+
 returns : tie.Need-returns
 unfolding admitOf parts
 returns c = search flags
@@ -25,4 +28,4 @@ unfolding admitOf admitted parts
 returns-2 c = rw (c .open .ensures) (search flags)
 
 pub admit-spec : {M : Type 1} → statement M
-admit-spec = tie.close (tie.spec mul-job element-copy-out-job returns open-requires returns-2)
+admit-spec = tie.close (tie.spec mul-job element-copy-out-job refuse-requires returns open-requires returns-2)

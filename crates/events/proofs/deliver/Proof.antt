@@ -14,9 +14,12 @@ oldest-requires c κs = search needs
 cast-n : tie.Need-cast-n
 cast-n c = search needs
 
+refuse-requires : tie.Need-refuse-requires
+refuse-requires c κs = search needs
+
 returns : tie.Need-returns
 unfolding deliverOf parts
-returns c = rw (← c .before .oldest .ensures) (search flags)
+returns c = rw (← c .before .before .oldest .ensures) (search flags)
 
 mul-m : tie.Need-mul-m
 mul-m c = search needs
@@ -41,7 +44,7 @@ deliver-spec =
     (tie.spec
     oldest-requires
     cast-n
-    returns
+    refuse-requires returns
     mul-m
     element-copy-out-m
     pull-requires

@@ -7,6 +7,9 @@ use Rattle.events.specs.Events.{dieOf}
 use Rattle.events.proofs.die.Statement.{statement}
 use Rattle.events.proofs.die.Tie as tie
 
+refuse-requires : tie.Need-refuse-requires
+refuse-requires c κs = search needs
+
 returns : tie.Need-returns
 unfolding dieOf parts
 returns c = search flags
@@ -16,6 +19,9 @@ mul-n c = search needs
 
 element-copy-out-n : tie.Need-element-copy-out-n
 element-copy-out-n c = search needs
+
+refuse-requires-2 : tie.Need-refuse-requires-2
+refuse-requires-2 c κs = search needs
 
 returns-2 : tie.Need-returns-2
 unfolding dieOf parts
@@ -29,4 +35,4 @@ unfolding dieOf parts
 returns-3 c = rw (c .died .ensures) (search flags)
 
 pub die-spec : {M : Type 1} → statement M
-die-spec = tie.close (tie.spec returns mul-n element-copy-out-n returns-2 died-requires returns-3)
+die-spec = tie.close (tie.spec refuse-requires returns mul-n element-copy-out-n refuse-requires-2 returns-2 died-requires returns-3)

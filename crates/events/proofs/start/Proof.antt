@@ -13,9 +13,15 @@ mul-n c = search needs
 element-copy-out-n : tie.Need-element-copy-out-n
 element-copy-out-n c = search needs
 
+refuse-requires : tie.Need-refuse-requires
+refuse-requires c κs = search needs
+
 returns : tie.Need-returns
 unfolding startOf parts
 returns c = search flags
+
+refuse-requires-2 : tie.Need-refuse-requires-2
+refuse-requires-2 c κs = search needs
 
 returns-2 : tie.Need-returns-2
 unfolding startOf parts
@@ -29,6 +35,9 @@ add-r c = search needs
 
 element-copy-out-r : tie.Need-element-copy-out-r
 element-copy-out-r c = search needs
+
+refuse-requires-3 : tie.Need-refuse-requires-3
+refuse-requires-3 c κs = search needs
 
 returns-3 : tie.Need-returns-3
 unfolding startOf parts
@@ -47,11 +56,11 @@ start-spec =
     (tie.spec
     mul-n
     element-copy-out-n
-    returns
-    returns-2
+    refuse-requires returns
+    refuse-requires-2 returns-2
     mul-r
     add-r
     element-copy-out-r
-    returns-3
+    refuse-requires-3 returns-3
     started-requires
     returns-4)

@@ -11,17 +11,17 @@ use Rattle.handlers.proofs.on_no_work.Tie as tie
 cast-b : tie.Need-cast-b
 cast-b c = search needs
 
-mul-n : tie.Need-mul-n
-mul-n c = search needs
+mul-idle : tie.Need-mul-idle
+mul-idle c = search needs
 
-element-copy-out-n : tie.Need-element-copy-out-n
-element-copy-out-n c = search needs
+element-copy-out-idle : tie.Need-element-copy-out-idle
+element-copy-out-idle c = search needs
 
-mul-n-2 : tie.Need-mul-n-2
-mul-n-2 c = search needs
+mul-idle-2 : tie.Need-mul-idle-2
+mul-idle-2 c = search needs
 
-element-set-from-n : tie.Need-element-set-from-n
-element-set-from-n c = search needs
+element-set-from-idle : tie.Need-element-set-from-idle
+element-set-from-idle c = search needs
 
 returns : tie.Need-returns
 unfolding onNoWork pieces parts
@@ -29,4 +29,4 @@ returns c = search flags
 
 pub on-no-work-spec : {M : Type 1} → statement M
 on-no-work-spec =
-    tie.close (tie.spec cast-b mul-n element-copy-out-n mul-n-2 element-set-from-n returns)
+    tie.close (tie.spec cast-b mul-idle element-copy-out-idle mul-idle-2 element-set-from-idle returns)

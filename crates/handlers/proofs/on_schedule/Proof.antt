@@ -11,11 +11,11 @@ use Rattle.handlers.proofs.on_schedule.Tie as tie
 cast-b : tie.Need-cast-b
 cast-b c = search needs
 
-mul-n : tie.Need-mul-n
-mul-n c = search needs
+mul-thief : tie.Need-mul-thief
+mul-thief c = search needs
 
-element-copy-out-n : tie.Need-element-copy-out-n
-element-copy-out-n c = search needs
+element-copy-out-thief : tie.Need-element-copy-out-thief
+element-copy-out-thief c = search needs
 
 cast-enter : tie.Need-cast-enter
 cast-enter c = search needs
@@ -23,11 +23,11 @@ cast-enter c = search needs
 enter-requires : tie.Need-enter-requires
 enter-requires c κs = search needs
 
-mul-n-2 : tie.Need-mul-n-2
-mul-n-2 c = search needs
+mul-thief-2 : tie.Need-mul-thief-2
+mul-thief-2 c = search needs
 
-element-set-from-n : tie.Need-element-set-from-n
-element-set-from-n c = search needs
+element-set-from-thief : tie.Need-element-set-from-thief
+element-set-from-thief c = search needs
 
 send-requires : tie.Need-send-requires
 unfolding enter parts
@@ -42,11 +42,11 @@ on-schedule-spec =
     tie.close
     (tie.spec
     cast-b
-    mul-n
-    element-copy-out-n
+    mul-thief
+    element-copy-out-thief
     cast-enter
     enter-requires
-    mul-n-2
-    element-set-from-n
+    mul-thief-2
+    element-set-from-thief
     send-requires
     returns)

@@ -13,6 +13,9 @@ mul-n c = search needs
 element-copy-out-n : tie.Need-element-copy-out-n
 element-copy-out-n c = search needs
 
+refuse-requires : tie.Need-refuse-requires
+refuse-requires c κs = search needs
+
 returns : tie.Need-returns
 unfolding noticeOf parts
 returns c = search flags
@@ -23,6 +26,9 @@ mul-d c = search needs
 element-copy-out-d : tie.Need-element-copy-out-d
 element-copy-out-d c = search needs
 
+refuse-requires-2 : tie.Need-refuse-requires-2
+refuse-requires-2 c κs = search needs
+
 returns-2 : tie.Need-returns-2
 unfolding noticeOf parts
 returns-2 c = search flags
@@ -30,9 +36,12 @@ returns-2 c = search flags
 told-at-requires : tie.Need-told-at-requires
 told-at-requires c κs = search needs
 
+refuse-requires-3 : tie.Need-refuse-requires-3
+refuse-requires-3 c κs = search needs
+
 returns-3 : tie.Need-returns-3
 unfolding noticeOf parts
-returns-3 c = rw (← c .before .told-at .ensures) (search flags)
+returns-3 c = rw (← c .before .before .told-at .ensures) (search flags)
 
 noticed-requires : tie.Need-noticed-requires
 noticed-requires c κs = search needs
@@ -47,11 +56,11 @@ notice-spec =
     (tie.spec
     mul-n
     element-copy-out-n
-    returns
+    refuse-requires returns
     mul-d
     element-copy-out-d
-    returns-2
+    refuse-requires-2 returns-2
     told-at-requires
-    returns-3
+    refuse-requires-3 returns-3
     noticed-requires
     returns-4)
