@@ -2,8 +2,8 @@
 -- or is sent, or some are dropped.
 -- Assumes nothing.
 use mathlib.Core.Path.{_≡_, refl, sym, ap, _∙_}
-use mathlib.Core.Bool.{true, false, true≢false}
-use mathlib.Core.List.{List, [], _∷_, _++_}
+use mathlib.Core.Bool.{Bool, true, false, true≢false}
+use mathlib.Core.List.{List, _∷_}
 use Prim.Native.Nat.{ℕ, _+_, _≤_, _<_, min}
 use native.Mathlib.Omega.{arith}
 use lib.Dec.{eqb}
@@ -13,7 +13,7 @@ use Rattle.table.specs.declared.Message.{Message}
 use Rattle.table.specs.declared.Table.{Table}
 use Rattle.table.specs.Views.{noMessage, jobAt, nodeAt, poolAt}
 use Rattle.lists.proofs.Cases.{byBool, byEq}
-use Rattle.lists.proofs.Count.{ind, count, count-append, Every, every-map, every-append}
+use Rattle.lists.proofs.Count.{ind, count, Every, every-map}
 use Rattle.invariant.proofs.State.{Trip, Known, Ends, trip, isTrip, ackFrom, resultFrom, dead, has, held}
 use Rattle.invariant.proofs.TripLaws.{dead-is, dead-same, trip-eqs, trip-kinds, trip-other, ack-other, ack-trip, acks-trips, result-other, known-job, known-plain, Places}
 
@@ -35,16 +35,15 @@ trip-frame t u l jb kn pl mo on mv ak = record {
   acked = simp jb ak;
 }
 
--- ---- the place of a message in the list does not matter
-
-pub trip-snoc : (t : Table) (x : Message) (l : List Message) → Trip t (x ∷ l) → Trip t (l ++ x ∷ [])
+-- the table is the same, and the lists count alike: the place of a message in the list does not matter
+pub trip-list : (t : Table) (k l : List Message) → Every (Known t) l → ((p : Message → Bool) → count p l ≡ count p k) → Trip t k → Trip t l
 unfolding held
-trip-snoc t x l i =
-    trip-frame t t (l ++ x ∷ []) (λ j. refl) (every-append (Known t) l x (i .known .1) (i .known .0)) (i .pools)
-    (λ j a b. omega (arith, count-append (trip j (jobAt t j .replica)) l (x ∷ []), i .moves j a b))
-    (λ j a b c. omega (arith, count-append (resultFrom j (jobAt t j .holder)) l (x ∷ []), i .on j a b c))
-    (λ j a b c. omega (arith, count-append (trip j (jobAt t j .replica)) l (x ∷ []), i .moved j a b c))
-    (λ j p a b c d. omega (arith, count-append (resultFrom j p) l (x ∷ []), i .acked j p a b c (omega (arith, count-append (ackFrom j (jobAt t j .replica) p) l (x ∷ [])))))
+trip-list t k l kn n i =
+    trip-frame t t l (λ j. refl) kn (i .pools)
+    (λ j a b. omega (arith, n (trip j (jobAt t j .replica)), i .moves j a b))
+    (λ j a b c. omega (arith, n (resultFrom j (jobAt t j .holder)), i .on j a b c))
+    (λ j a b c. omega (arith, n (trip j (jobAt t j .replica)), i .moved j a b c))
+    (λ j p a b c d. omega (arith, n (resultFrom j p), i .acked j p a b c (omega (arith, n (ackFrom j (jobAt t j .replica) p)))))
 
 -- ---- a message that goes: where it counted for a move, one end of the move is dead
 
