@@ -12,6 +12,7 @@ use Rattle.table.specs.declared.Job.{Job}
 use Rattle.table.specs.declared.Message.{Message}
 use Rattle.table.specs.declared.Table.{Table}
 use Rattle.table.specs.Views.{noMessage, jobAt, nodeAt, poolAt}
+use Rattle.table.specs.Parts.{AUTH, SCHEDULE, ACK, RESULT}
 use Rattle.lists.proofs.Cases.{byBool, byEq}
 use Rattle.lists.proofs.Count.{ind, count, Every, every-map}
 use Rattle.invariant.proofs.State.{Trip, Known, Ends, trip, isTrip, ackFrom, resultFrom, dead, has, held}
@@ -60,14 +61,14 @@ trip-lost t x l h n i =
     (λ j p a b c d. omega (arith, i .acked j p a b c (omega arith), ap ind (n j p c)))
 
 -- it was of a kind that counts for nothing
-pub trip-passed : (t : Table) (x : Message) (l : List Message) (k : ℕ) → x .kind ≡ k → isTrip k ≡ false → eqb k 9 ≡ false → Trip t (x ∷ l) → Trip t l
+pub trip-passed : (t : Table) (x : Message) (l : List Message) (k : ℕ) → x .kind ≡ k → isTrip k ≡ false → eqb k RESULT ≡ false → Trip t (x ∷ l) → Trip t l
 trip-passed t x l k ex tk rk =
     trip-lost t x l
     (λ j a b e. absurd (true≢false (sym e ∙ trip-other k j (jobAt t j .replica) x ex tk)))
     (λ j p o. result-other k j p x ex rk)
 
 -- a message to a dead machine
-pub trip-dropped : (t : Table) (x : Message) (l : List Message) → (nodeAt t (x .to) .alive ≡ 1 → ⊥) → (x .kind ≡ 7 → ⊥) → (x .kind ≡ 9 → ⊥) → Trip t (x ∷ l) → Trip t l
+pub trip-dropped : (t : Table) (x : Message) (l : List Message) → (nodeAt t (x .to) .alive ≡ 1 → ⊥) → (x .kind ≡ ACK → ⊥) → (x .kind ≡ RESULT → ⊥) → Trip t (x ∷ l) → Trip t l
 trip-dropped t x l gone n7 n9 i =
     trip-lost t x l
     (λ j a b e.
@@ -75,12 +76,12 @@ trip-dropped t x l gone n7 n9 i =
     let job : jobAt t (x .job) ≡ jobAt t j = ap (jobAt t) (es .1) in
     let en : Ends t x = i .known .0 .ends (rw job b) (rw job (es .2)) in
     let to : dead t (x .to) ≡ 1 = dead-is t (x .to) gone in
-    byEq (x .kind) 3
+    byEq (x .kind) AUTH
     (λ f. omega (arith, to, ap (dead t) (sym (ap (λ (b : Job). b .holder) job) ∙ en .auth f .0)))
-    (λ n3. byEq (x .kind) 6
+    (λ n3. byEq (x .kind) SCHEDULE
     (λ f. omega (arith, to, ap (dead t) (sym (ap (λ (b : Job). b .thief) job) ∙ en .schedule f .1)))
     (λ n6. absurd (trip-kinds (x .kind) (es .0) n3 n6 n7))))
-    (λ j p o. result-other (x .kind) j p x refl (ne-eqb (x .kind) 9 n9))
+    (λ j p o. result-other (x .kind) j p x refl (ne-eqb (x .kind) RESULT n9))
     i
 
 -- ---- the empty message counts for nothing

@@ -11,6 +11,7 @@ use Rattle.table.specs.declared.Message.{Message}
 use Rattle.table.specs.declared.Table.{Table}
 use Rattle.table.specs.Views.{noMessage, jobAt, nodeAt, poolAt, messageAt, flight, withMessages}
 use Rattle.table.specs.Messages.{pull, send}
+use Rattle.table.specs.Parts.{ACK, RESULT}
 use Rattle.table.proofs.Views.{Sized, views}
 use Rattle.elements.specs.Elements.{toRoot}
 use Rattle.lists.specs.Scan.{without}
@@ -51,7 +52,7 @@ trip-takes t k z h i =
 
 -- ---- a message takes the place of another, and neither counts for a move
 
-pub trip-swap : (t u : Table) (x y : Message) (l : List Message) (k c : ℕ) → x .kind ≡ k → y .kind ≡ c → isTrip k ≡ false → isTrip c ≡ false → eqb k 9 ≡ false → eqb c 7 ≡ false
+pub trip-swap : (t u : Table) (x y : Message) (l : List Message) (k c : ℕ) → x .kind ≡ k → y .kind ≡ c → isTrip k ≡ false → isTrip c ≡ false → eqb k RESULT ≡ false → eqb c ACK ≡ false
     → Places t
     → ((j : ℕ) → jobAt u j ≡ jobAt t j)
     → ((k : ℕ) → nodeAt u k .alive ≡ nodeAt t k .alive)
