@@ -1,0 +1,58 @@
+-- Runs: a list of events after another, and what `Answered` says of an event wherever it stands in its list.
+-- Assumes nothing.
+use Prim.Native.Nat.{ℕ, zero, suc, _+_}
+use mathlib.Core.Path.{_≡_, refl, sym, ap, _∙_}
+use mathlib.Core.Logic.{_≢_}
+use mathlib.Core.Bool.{Bool, true, false, cond}
+use mathlib.Core.List.{List, [], _∷_, _++_}
+use native.Mathlib.Omega.{arith}
+use lib.ListN.{length, getD}
+use Rattle.table.specs.declared.Table.{Table}
+use Rattle.table.specs.declared.Answer.{Answer}
+use Rattle.preservation.proofs.Answers.{Valid}
+use Rattle.dispatcher.specs.Step.{stepOf, runOf}
+use Rattle.dispatcher.proofs.Kept.{valid-passes, valid-run, step-answer}
+use Rattle.dispatcher.proofs.Nine.{answer-9}
+use Rattle.claims.specs.History.{answersOf}
+use Rattle.claims.specs.Claims.{Answered}
+use Rattle.claims.proofs.Events.{by-step}
+
+pub run-append : (t : Table) (es fs : List (List ℕ)) → runOf t (es ++ fs) ≡ runOf (runOf t es) fs
+unfolding runOf
+run-append t [] fs = refl
+run-append t (e ∷ es) fs = run-append (stepOf t e .table) es fs
+
+run-next : (t : Table) (es : List (List ℕ)) (e : List ℕ) (fs : List (List ℕ)) → runOf t (es ++ e ∷ fs) ≡ runOf (stepOf (runOf t es) e .table) fs
+unfolding runOf
+run-next t [] e fs = refl
+run-next t (d ∷ es) e fs = run-next (stepOf t d .table) es e fs
+
+answer-at : (t : Table) (es : List (List ℕ)) (e : List ℕ) (fs : List (List ℕ)) → getD (answersOf t (es ++ e ∷ fs)) (length es) 0 ≡ stepOf (runOf t es) e .number
+unfolding runOf answersOf
+answer-at t [] e fs = refl
+answer-at t (d ∷ es) e fs = answer-at (stepOf t d .table) es e fs
+
+-- a refused event returns the table as it was
+pub step-refused : (t : Table) (e : List ℕ) → Valid t → stepOf t e .number ≢ 0 → stepOf t e .table ≡ t
+step-refused t e v =
+    by-step (λ x. x .number ≢ 0 → x .table ≡ t) t e
+    (λ n d f. refl)
+    (λ c d f. absurd (f refl))
+    (λ c d f. absurd (f refl))
+    (λ c d f. absurd (f refl))
+    (λ c d f. absurd (f refl))
+    (λ c d f. absurd (f refl))
+    (λ c d f. absurd (f refl))
+    (λ c d f. absurd (f refl))
+    v
+
+step-valid : (t : Table) (e : List ℕ) → Valid t → stepOf t e .number ≢ 9
+step-valid t e v = rw (step-answer t e (valid-passes t v)) (answer-9 t e)
+
+pub answered : (t : Table) → Valid t → (front : List (List ℕ)) (e : List ℕ) (back : List (List ℕ)) → Answered t front e back
+answered t v front e back = record {
+  number = answer-at t front e back;
+  next = run-next t front e back;
+  refused = step-refused (runOf t front) e (valid-run t front v);
+  valid = step-valid (runOf t front) e (valid-run t front v);
+}
