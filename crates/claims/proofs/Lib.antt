@@ -1,3 +1,5 @@
 pub mod Events
 pub mod Kept
 pub mod Runs
+pub mod Change
+pub mod Handled
