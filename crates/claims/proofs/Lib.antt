@@ -3,3 +3,4 @@ pub mod Kept
 pub mod Runs
 pub mod Change
 pub mod Handled
+pub mod Steps
