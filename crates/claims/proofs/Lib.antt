@@ -4,3 +4,4 @@ pub mod Runs
 pub mod Change
 pub mod Handled
 pub mod Steps
+pub mod History

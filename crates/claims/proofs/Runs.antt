@@ -13,7 +13,7 @@ use Rattle.preservation.proofs.Answers.{Valid}
 use Rattle.dispatcher.specs.Step.{stepOf, runOf}
 use Rattle.dispatcher.proofs.Kept.{valid-passes, valid-run, step-answer}
 use Rattle.dispatcher.proofs.Nine.{answer-9}
-use Rattle.claims.specs.History.{answersOf}
+use Rattle.claims.specs.History.{answersOf, countOf, delivers, takenOff, resultsOf}
 use Rattle.claims.specs.Claims.{Answered}
 use Rattle.claims.proofs.Events.{by-step}
 
@@ -56,3 +56,29 @@ answered t v front e back = record {
   refused = step-refused (runOf t front) e (valid-run t front v);
   valid = step-valid (runOf t front) e (valid-run t front v);
 }
+
+-- ---- one more event at the front
+
+pub run-more : (t : Table) (e : List ℕ) (es : List (List ℕ)) → runOf t (e ∷ es) ≡ runOf (stepOf t e .table) es
+unfolding runOf
+run-more t e es = refl
+
+pub count-more : (p : Table → List ℕ → Bool) (t : Table) (e : List ℕ) (es : List (List ℕ)) → countOf p t (e ∷ es) ≡ cond (p t e) 1 0 + countOf p (stepOf t e .table) es
+unfolding countOf
+count-more p t e es = refl
+
+pub count-none : (p : Table → List ℕ → Bool) (t : Table) → countOf p t [] ≡ 0
+unfolding countOf
+count-none p t = refl
+
+pub results-none : (j : ℕ) (t : Table) → resultsOf j t [] ≡ []
+unfolding resultsOf
+results-none j t = refl
+
+pub results-yes : (j : ℕ) (t : Table) (e : List ℕ) (es : List (List ℕ)) → delivers j t e ≡ true → resultsOf j t (e ∷ es) ≡ takenOff t e .price ∷ resultsOf j (stepOf t e .table) es
+unfolding resultsOf
+results-yes j t e es d = rw d refl
+
+pub results-no : (j : ℕ) (t : Table) (e : List ℕ) (es : List (List ℕ)) → delivers j t e ≡ false → resultsOf j t (e ∷ es) ≡ resultsOf j (stepOf t e .table) es
+unfolding resultsOf
+results-no j t e es d = rw d refl
