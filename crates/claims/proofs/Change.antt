@@ -4,6 +4,7 @@ use Prim.Native.Nat.{ℕ, _+_, _≤_, _<_}
 use mathlib.Core.Path.{_≡_, refl, sym, ap, _∙_}
 use mathlib.Core.Logic.{_≢_}
 use mathlib.Core.Bool.{Bool, true, false, cond}
+use mathlib.Core.List.{List}
 use lib.Dec.{eqb}
 use lib.ListN.{List·getD-eq-default}
 use native.Mathlib.Omega.{arith}
@@ -11,7 +12,7 @@ use Rattle.lists.proofs.Cases.{byBool, byEq}
 use Rattle.table.specs.declared.Job.{Job}
 use Rattle.table.specs.declared.Message.{Message}
 use Rattle.table.specs.declared.Table.{Table}
-use Rattle.table.specs.Views.{noJob, jobAt, nodeAt, withJob}
+use Rattle.table.specs.Views.{noJob, jobAt, nodeAt, withJob, withMessages}
 use Rattle.table.specs.Messages.{push, pull, send}
 use Rattle.table.specs.Parts.{opened, priced}
 use Rattle.table.proofs.Views.{Sized, job-same, job-other, job-messages}
@@ -36,12 +37,17 @@ pub data Change (a d f : Bool) (p : ℕ) (v w : Job) : Type 0 where
 
 -- ---- jobs after a part of an event
 
-pub job-either : (j : ℕ) (v : Job) (b : Bool) (t u : Table) → jobAt t j ≡ v → jobAt u j ≡ v → jobAt (cond b t u) j ≡ v
-job-either j v b t u d e = byBool b (λ c. rw c d) (λ c. rw c e)
+-- either of two tables
+pub view-either : {A : Type 0} (f : Table → A) (v : A) (b : Bool) (t u : Table) → f t ≡ v → f u ≡ v → f (cond b t u) ≡ v
+view-either f v b t u d e = byBool b (λ c. rw c d) (λ c. rw c e)
+
+-- a view that does not read the messages
+pub view-send : {A : Type 0} (f : Table → A) (t : Table) (x : Message) → ((n : ℕ) (l : List Message) → f (withMessages t n l) ≡ f t) → f (send t x) ≡ f t
+unfolding send push
+view-send f t x h = view-either f (f t) (eqb (nodeAt t (x .to) .alive) 1) _ t (h _ _) refl
 
 pub job-send : (t : Table) (x : Message) (j : ℕ) → jobAt (send t x) j ≡ jobAt t j
-unfolding send push
-job-send t x j = job-either j (jobAt t j) (eqb (nodeAt t (x .to) .alive) 1) _ t (job-messages t _ _ j) refl
+job-send t x j = view-send (λ u. jobAt u j) t x (λ n l. job-messages t n l j)
 
 pub job-pull : (t : Table) (k j : ℕ) → jobAt (pull t k) j ≡ jobAt t j
 unfolding pull

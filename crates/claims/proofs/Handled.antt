@@ -7,7 +7,7 @@ use mathlib.Core.Bool.{Bool, true, false, not, cond, _&&_, _||_}
 use native.Mathlib.Omega.{arith}
 use borrow.Author.Tests.{eqb-true, eqb-false, eq-eqb, ne-eqb}
 use lib.Dec.{eqb, leb}
-use Rattle.lists.proofs.Cases.{byBool, byEq, and-left}
+use Rattle.lists.proofs.Cases.{byBool, byEq, and-left, or-left-false}
 use Rattle.table.specs.declared.Job.{Job}
 use Rattle.table.specs.declared.Message.{Message}
 use Rattle.table.specs.declared.Table.{Table}
@@ -23,7 +23,7 @@ use Rattle.invariant.proofs.Hand.{hand}
 use Rattle.invariant.proofs.Flight.{every-taken}
 use Rattle.invariant.proofs.Frame.{job-enter}
 use Rattle.invariant.proofs.ByKind.{by-kind}
-use Rattle.claims.proofs.Change.{Same, same-job, Change, job-either, job-send, job-pull, same-with}
+use Rattle.claims.proofs.Change.{Same, same-job, Change, view-either, job-send, job-pull, same-with}
 use Rattle.claims.proofs.Change.Change.{pricing, late, other}
 
 -- ---- the handlers that write no job
@@ -40,12 +40,12 @@ module _ (s : Table) (x : Message) (j : ℕ) where
   job-fish : jobAt (onFish s x) j ≡ jobAt s j
   unfolding onFish
   job-fish =
-      job-either j (jobAt s j) (not (eqb (nodeAt s (x .to) .«reserved_replica») 0)) _ _ (job-noWork s (x .to) (x .from))
-      (job-either j (jobAt s j) (leb 64 (lowest s (x .to))) _ _ (job-noWork s (x .to) (x .from)) (job-grant (x .to) (x .from) (lowest s (x .to))))
+      view-either (λ u. jobAt u j) (jobAt s j) (not (eqb (nodeAt s (x .to) .«reserved_replica») 0)) _ _ (job-noWork s (x .to) (x .from))
+      (view-either (λ u. jobAt u j) (jobAt s j) (leb 64 (lowest s (x .to))) _ _ (job-noWork s (x .to) (x .from)) (job-grant (x .to) (x .from) (lowest s (x .to))))
 
   job-auth : jobAt (onAuth s x) j ≡ jobAt s j
   unfolding onAuth
-  job-auth = job-either j (jobAt s j) (reserves (nodeAt s (x .to)) (x .job) (x .replica) (x .thief)) _ s (job-send _ _ j ∙ job-node s (x .to) _ j) refl
+  job-auth = view-either (λ u. jobAt u j) (jobAt s j) (reserves (nodeAt s (x .to)) (x .job) (x .replica) (x .thief)) _ s (job-send _ _ j ∙ job-node s (x .to) _ j) refl
 
   job-returned : (m : ℕ) → jobAt (returned s m) j ≡ jobAt s j
   unfolding returned
@@ -53,11 +53,11 @@ module _ (s : Table) (x : Message) (j : ℕ) where
 
   job-denied : jobAt (onDenied s x) j ≡ jobAt s j
   unfolding onDenied
-  job-denied = job-either j (jobAt s j) (reserves (nodeAt s (x .to)) (x .job) (x .replica) (x .thief)) _ s (job-noWork _ (x .to) (x .thief) ∙ job-returned (x .to)) refl
+  job-denied = view-either (λ u. jobAt u j) (jobAt s j) (reserves (nodeAt s (x .to)) (x .job) (x .replica) (x .thief)) _ s (job-noWork _ (x .to) (x .thief) ∙ job-returned (x .to)) refl
 
   job-obsolete : jobAt (onObsolete s x) j ≡ jobAt s j
   unfolding onObsolete
-  job-obsolete = job-either j (jobAt s j) (reserves (nodeAt s (x .to)) (x .job) (x .replica) (x .thief)) _ s (job-noWork _ (x .to) (x .thief) ∙ job-node s (x .to) _ j) refl
+  job-obsolete = view-either (λ u. jobAt u j) (jobAt s j) (reserves (nodeAt s (x .to)) (x .job) (x .replica) (x .thief)) _ s (job-noWork _ (x .to) (x .thief) ∙ job-node s (x .to) _ j) refl
 
   job-schedule : jobAt (onSchedule s x) j ≡ jobAt s j
   unfolding onSchedule
@@ -72,10 +72,6 @@ module _ (s : Table) (x : Message) (j : ℕ) where
   job-reply u k = job-send u _ j
 
 -- ---- those that write one
-
-not-left : (a b : Bool) → a || b ≡ false → a ≡ false
-not-left true b e = e
-not-left false b e = refl
 
 -- a job that is not priced, at another place
 same-moved : (v : Job) (a b : ℕ) → v .state ≢ 2 → Same v (moved v a b)
@@ -100,7 +96,7 @@ module _ (s : Table) (x : Message) (h : Hand s x) (cap : x .replica ≤ jobAt s 
       (λ b.
       let u = withJob s (x .job) (moved v (x .from) (x .thief)) in
       rw (a, b, onReq) (rw (job-reply s x j u AUTH)
-      (same-with s (h .sized) (x .job) (moved v (x .from) (x .thief)) (h .message .job) (same-moved v (x .from) (x .thief) (eqb-false (v .state) 2 (not-left (eqb (v .state) 2) (not (eqb (v .replica) (x .replica))) a))) j))))
+      (same-with s (h .sized) (x .job) (moved v (x .from) (x .thief)) (h .message .job) (same-moved v (x .from) (x .thief) (eqb-false (v .state) 2 (or-left-false (eqb (v .state) 2) (not (eqb (v .replica) (x .replica))) a))) j))))
 
   same-ack : Same (jobAt s j) (jobAt (onAck s x) j)
   unfolding onAck
@@ -145,7 +141,7 @@ module _ (s : Table) (x : Message) (h : Hand s x) (cap : x .replica ≤ jobAt s 
       let two : v .state ≡ 2 = omega (arith, admitted k, eqb-false (v .state) 1 a, h .facts .job (x .job) (h .message .job) .state) in
       rw (a, onResult) (late refl d refl (ap (λ (i : ℕ). jobAt s i .state) (sym e) ∙ two) refl)))
       (λ e. other refl (rw (kb, ne-eqb (x .job) j e) refl) refl
-      (same-job _ _ (job-either j (jobAt s j) (eqb (v .state) 1) _ s (job-other s (x .job) j _ (λ z. e (sym z))) refl)))
+      (same-job _ _ (view-either (λ u. jobAt u j) (jobAt s j) (eqb (v .state) 1) _ s (job-other s (x .job) j _ (λ z. e (sym z))) refl)))
 
   after-handle : After (handle s x)
   after-handle =

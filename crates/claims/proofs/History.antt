@@ -17,7 +17,7 @@ use Rattle.invariant.proofs.State.{Whole}
 use Rattle.dispatcher.specs.Step.{stepOf, runOf}
 use Rattle.claims.specs.History.{countOf, admits, finds, delivers, takenOff, resultsOf, stateAfter}
 use Rattle.claims.proofs.Runs.{run-more, count-more, count-none, results-none, results-yes, results-no}
-use Rattle.claims.proofs.Kept.{whole-step}
+use Rattle.invariant.proofs.Keeps.{whole-step}
 use Rattle.claims.proofs.Change.{Same, Change}
 use Rattle.claims.proofs.Change.Change.{admission, pricing, late, finding, other}
 use Rattle.claims.proofs.Steps.{change-step}

@@ -1,7 +1,8 @@
-pub mod Events
-pub mod Kept
 pub mod Runs
 pub mod Change
 pub mod Handled
 pub mod Steps
 pub mod History
+pub mod Deaths
+pub mod Shown
+pub mod Further

@@ -13,19 +13,14 @@ use Rattle.preservation.proofs.Answers.{Valid}
 use Rattle.dispatcher.specs.Step.{stepOf, runOf}
 use Rattle.dispatcher.proofs.Kept.{valid-passes, valid-run, step-answer}
 use Rattle.dispatcher.proofs.Nine.{answer-9}
+use Rattle.drain.proofs.Reach.{run-append}
 use Rattle.claims.specs.History.{answersOf, countOf, delivers, takenOff, resultsOf}
 use Rattle.claims.specs.Claims.{Answered}
-use Rattle.claims.proofs.Events.{by-step}
+use Rattle.dispatcher.proofs.Events.{by-cases}
 
-pub run-append : (t : Table) (es fs : List (List ℕ)) → runOf t (es ++ fs) ≡ runOf (runOf t es) fs
+pub run-more : (t : Table) (e : List ℕ) (es : List (List ℕ)) → runOf t (e ∷ es) ≡ runOf (stepOf t e .table) es
 unfolding runOf
-run-append t [] fs = refl
-run-append t (e ∷ es) fs = run-append (stepOf t e .table) es fs
-
-run-next : (t : Table) (es : List (List ℕ)) (e : List ℕ) (fs : List (List ℕ)) → runOf t (es ++ e ∷ fs) ≡ runOf (stepOf (runOf t es) e .table) fs
-unfolding runOf
-run-next t [] e fs = refl
-run-next t (d ∷ es) e fs = run-next (stepOf t d .table) es e fs
+run-more t e es = refl
 
 answer-at : (t : Table) (es : List (List ℕ)) (e : List ℕ) (fs : List (List ℕ)) → getD (answersOf t (es ++ e ∷ fs)) (length es) 0 ≡ stepOf (runOf t es) e .number
 unfolding runOf answersOf
@@ -33,9 +28,9 @@ answer-at t [] e fs = refl
 answer-at t (d ∷ es) e fs = answer-at (stepOf t d .table) es e fs
 
 -- a refused event returns the table as it was
-pub step-refused : (t : Table) (e : List ℕ) → Valid t → stepOf t e .number ≢ 0 → stepOf t e .table ≡ t
-step-refused t e v =
-    by-step (λ x. x .number ≢ 0 → x .table ≡ t) t e
+pub step-refused : (t : Table) (e : List ℕ) → stepOf t e .number ≢ 0 → stepOf t e .table ≡ t
+step-refused t e =
+    by-cases (λ x. x .number ≢ 0 → x .table ≡ t) t e
     (λ n d f. refl)
     (λ c d f. absurd (f refl))
     (λ c d f. absurd (f refl))
@@ -44,7 +39,6 @@ step-refused t e v =
     (λ c d f. absurd (f refl))
     (λ c d f. absurd (f refl))
     (λ c d f. absurd (f refl))
-    v
 
 step-valid : (t : Table) (e : List ℕ) → Valid t → stepOf t e .number ≢ 9
 step-valid t e v = rw (step-answer t e (valid-passes t v)) (answer-9 t e)
@@ -52,16 +46,12 @@ step-valid t e v = rw (step-answer t e (valid-passes t v)) (answer-9 t e)
 pub answered : (t : Table) → Valid t → (front : List (List ℕ)) (e : List ℕ) (back : List (List ℕ)) → Answered t front e back
 answered t v front e back = record {
   number = answer-at t front e back;
-  next = run-next t front e back;
-  refused = step-refused (runOf t front) e (valid-run t front v);
+  next = run-append t front (e ∷ back) ∙ run-more (runOf t front) e back;
+  refused = step-refused (runOf t front) e;
   valid = step-valid (runOf t front) e (valid-run t front v);
 }
 
 -- ---- one more event at the front
-
-pub run-more : (t : Table) (e : List ℕ) (es : List (List ℕ)) → runOf t (e ∷ es) ≡ runOf (stepOf t e .table) es
-unfolding runOf
-run-more t e es = refl
 
 pub count-more : (p : Table → List ℕ → Bool) (t : Table) (e : List ℕ) (es : List (List ℕ)) → countOf p t (e ∷ es) ≡ cond (p t e) 1 0 + countOf p (stepOf t e .table) es
 unfolding countOf

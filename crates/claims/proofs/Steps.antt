@@ -26,8 +26,7 @@ use Rattle.invariant.proofs.Quieted.{job-quieted}
 use Rattle.invariant.proofs.Reissued.{reissuedJob, job-reissue}
 use Rattle.dispatcher.specs.Step.{codeOf, firstOf, secondOf, stepOf}
 use Rattle.claims.specs.History.{admits, delivers, finds, takenOff}
-use Rattle.claims.proofs.Events.{Admitting, Delivering, Noticing, by-step}
-use Rattle.claims.proofs.Kept.{whole-valid}
+use Rattle.dispatcher.proofs.Events.{Admitting, Delivering, Noticing, by-cases}
 use Rattle.claims.proofs.Change.{Same, same-job, Change, job-send}
 use Rattle.claims.proofs.Change.Change.{admission, finding, other}
 use Rattle.claims.proofs.Handled.{change-delivered}
@@ -128,7 +127,7 @@ module _ (t : Table) (w : Whole t) (e : List ℕ) (j : ℕ) (l : j < 64) where
 
   pub change-step : Change (admits j t e) (delivers j t e) (finds j t e) (takenOff t e .price) (jobAt t j) (jobAt (stepOf t e .table) j)
   change-step =
-      by-step Told t e
+      by-cases Told t e
       (λ n d. rw (ne-eqb n 0 d) (other refl refl refl (same-job (jobAt t j) (jobAt t j) refl)))
       (λ c d. flags (is-code (codeOf e) 1 _ _ c refl) (not-code (codeOf e) 1 3 _ c refl) (not-code (codeOf e) 1 7 _ c refl)
       (change-admitted t w j l (firstOf e) (takenOff t e .price) d))
@@ -138,4 +137,3 @@ module _ (t : Table) (w : Whole t) (e : List ℕ) (j : ℕ) (l : j < 64) where
       (λ c d. quiet (finished t (firstOf e)) 5 c refl refl refl (job-finished t j (firstOf e)))
       (λ c d. quiet (died t (firstOf e)) 6 c refl refl refl (job-died t (firstOf e) j))
       (λ c d. notice c)
-      (whole-valid t w)

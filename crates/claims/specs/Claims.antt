@@ -43,6 +43,8 @@ pub record Shown (book : List ℕ) (fresh : Table) (events : List (List ℕ)) (j
   pub serial : v .state ≡ 2 → v .price ≡ getD (serialOf book) j 0
   -- the replica number is "1 plus the root notices that found the job"
   pub replica : v .state ≢ 0 → v .replica ≡ 1 + countOf (finds j) fresh events
+  -- "a job not admitted has replica 0"
+  pub unnumbered : v .state ≡ 0 → v .replica ≡ 0
   -- "no replica number above 1 + accepted deaths"
   pub bounded : v .replica ≤ 1 + countOf kills fresh events
 

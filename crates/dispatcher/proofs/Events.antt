@@ -1,5 +1,5 @@
--- One event on a table that passes check 9, by cases: it is refused, with a number that is not 0 and the table as it was; or it is accepted, and then its
--- refusals have tested what the record of its kind says.
+-- One event on a table, by cases: it is refused, with a number that is not 0 and the table as it was; or it is accepted, and then its refusals have tested
+-- what the record of its kind says.
 -- Assumes nothing.
 use Prim.Native.Nat.{ℕ, suc, _≤_, _<_}
 use mathlib.Core.Path.{_≡_, refl}
@@ -7,8 +7,8 @@ use mathlib.Core.Logic.{_≢_}
 use mathlib.Core.Bool.{Bool, true, false, not, _&&_, _||_}
 use mathlib.Core.List.{List}
 use native.Mathlib.Omega.{arith}
-use borrow.Author.Tests.{eqb-true, eqb-false, ne-eqb, leb-true, leb-false, ltb-true, not-false}
-use lib.Dec.{eqb, leb, ltb}
+use borrow.Author.Tests.{eqb-true, eqb-false, ne-eqb, leb-true, leb-false, not-false}
+use lib.Dec.{eqb, leb}
 use lib.ListN.{length}
 use Rattle.lists.proofs.Cases.{byBool, and-left, and-right}
 use Rattle.table.specs.declared.Table.{Table}
@@ -16,13 +16,11 @@ use Rattle.table.specs.declared.Answer.{Answer}
 use Rattle.table.specs.Views.{jobAt, nodeAt, poolAt, toldAt, refuse}
 use Rattle.table.specs.Messages.{oldest}
 use Rattle.table.specs.Parts.{lives, accept}
+use Rattle.validity.specs.Validity.{tableOk}
 use Rattle.events.specs.Events.{admitted, admitOf, stolen, stealOf, delivered, deliverOf, started, startOf, finished, doneOf, died, dieOf}
 use Rattle.events.specs.Notice.{noticed, noticeOf}
-use Rattle.preservation.proofs.Ok.{machines-most}
-use Rattle.preservation.proofs.Passed.{facts}
-use Rattle.preservation.proofs.Answers.{Valid}
+use Rattle.dispatcher.proofs.Numbers.{entry-in, start-in, machines-in}
 use Rattle.dispatcher.specs.Step.{codeOf, firstOf, secondOf, usesSecond, formed, numbered, eventOf, answerOf, stepOf}
-use Rattle.dispatcher.proofs.Kept.{valid-passes, step-answer}
 
 -- ---- what the refusals of an accepted event have tested
 
@@ -34,6 +32,7 @@ pub record Stealing (t : Table) (a b : ℕ) : Type 0 where
   pub machine : a < t .machines
   pub victim : b < t .machines
   pub alive : nodeAt t a .alive ≡ 1
+  pub untold : toldAt t a b ≡ 0
   pub room : t .«in_flight» < 128
 
 pub record Delivering (t : Table) (a b : ℕ) : Type 0 where
@@ -88,7 +87,7 @@ module _ (P : Answer → Type 0) (t : Table) (refused : (n : ℕ) → n ≢ 0 �
       (λ e2. byBool (not (eqb (nodeAt t a .waits) 0)) (λ e. rw (e1, e2, e, stealOf) (no 14 refl))
       (λ e3. byBool (not (eqb (toldAt t a b) 0)) (λ e. rw (e1, e2, e3, e, stealOf) (no 14 refl))
       (λ e4. byBool (leb 128 (t .«in_flight»)) (λ e. rw (e1, e2, e3, e4, e, stealOf) (no 16 refl))
-      (λ e5. rw (e1, e2, e3, e4, e5, stealOf) (f (record { machine = h; victim = k; alive = yes-alive a e1; room = leb-false 128 (t .«in_flight») e5 })))))))
+      (λ e5. rw (e1, e2, e3, e4, e5, stealOf) (f (record { machine = h; victim = k; alive = yes-alive a e1; untold = eqb-true (toldAt t a b) 0 (not-false _ e4); room = leb-false 128 (t .«in_flight») e5 })))))))
 
   by-deliver : (a b : ℕ) → (Delivering t a b → P (accept (delivered t (oldest t a b)))) → P (deliverOf t a b)
   unfolding deliverOf
@@ -131,24 +130,7 @@ module _ (P : Answer → Type 0) (t : Table) (refused : (n : ℕ) → n ≢ 0 �
       (λ e3. rw (e1, e2, e3, noticeOf)
       (f (record { machine = h; named = k; alive = yes-alive a e1; dead = eqb-false (nodeAt t b .alive) 1 e2; new = eqb-true (toldAt t a b) 0 (not-false _ e3) })))))
 
--- ---- the numbers that refusals 10 and 11 have tested
-
-module _ (t : Table) (code a b : ℕ) (g : numbered t code a b ≡ true) where
-  entry-in : code ≡ 1 → a < t .entries
-  unfolding numbered
-  entry-in e = ltb-true a (t .entries) (rw e at g)
-
-  start-in : code ≡ 4 → (a < t .machines) × (b < t .entries)
-  unfolding numbered
-  start-in e =
-      let h : ltb a (t .machines) && ltb b (t .entries) ≡ true = rw e at g in
-      (ltb-true _ _ (and-left (ltb a (t .machines)) (ltb b (t .entries)) h), ltb-true _ _ (and-right (ltb a (t .machines)) (ltb b (t .entries)) h))
-
-  machines-in : eqb code 1 ≡ false → eqb code 4 ≡ false → (a < t .machines) × (b < t .machines)
-  unfolding numbered
-  machines-in e f =
-      let h : ltb a (t .machines) && ltb b (t .machines) ≡ true = rw (e, f) at g in
-      (ltb-true _ _ (and-left (ltb a (t .machines)) (ltb b (t .machines)) h), ltb-true _ _ (and-right (ltb a (t .machines)) (ltb b (t .machines)) h))
+-- ---- the code
 
 formed-code : (e : List ℕ) → formed e ≡ true → (1 ≤ codeOf e) × (codeOf e ≤ 7)
 unfolding formed
@@ -190,14 +172,14 @@ module _ (P : Answer → Type 0) (t : Table) (e : List ℕ)
       let a = firstOf e in
       let b = secondOf e in
       byBool (eqb c 1)
-      (λ x. rw (x, eventOf) (by-admit P t refused a (entry-in t c a b g (eqb-true c 1 x)) (admit (eqb-true c 1 x))))
+      (λ x. rw (x, eventOf) (by-admit P t refused a (entry-in t c a b g x) (admit (eqb-true c 1 x))))
       (λ x1. byBool (eqb c 2)
       (λ x. let p = machines-in t c a b g x1 (other c 2 4 x (λ z. omega arith)) in
       rw (x1, x, eventOf) (by-steal P t refused a b (p .0) (p .1) (steal (eqb-true c 2 x))))
       (λ x2. byBool (eqb c 3)
       (λ x. rw (x1, x2, x, eventOf) (by-deliver P t refused a b (deliver (eqb-true c 3 x))))
       (λ x3. byBool (eqb c 4)
-      (λ x. let p = start-in t c a b g (eqb-true c 4 x) in rw (x1, x2, x3, x, eventOf) (by-start P t refused a b (p .0) (p .1) (start (eqb-true c 4 x))))
+      (λ x. let p = start-in t c a b g x1 x in rw (x1, x2, x3, x, eventOf) (by-start P t refused a b (p .0) (p .1) (start (eqb-true c 4 x))))
       (λ x4.
       let p = machines-in t c a b g x1 x4 in
       byBool (eqb c 5)
@@ -213,5 +195,6 @@ module _ (P : Answer → Type 0) (t : Table) (e : List ℕ)
       (λ f. byBool (not (numbered t (codeOf e) (firstOf e) (secondOf e))) (λ g. rw (f, g, answerOf) (refused 11 (λ z. omega arith)))
       (λ g. rw (f, g, answerOf) (by-event (not-false _ f) (not-false _ g))))
 
-  pub by-step : Valid t → P (stepOf t e)
-  by-step v = rw (step-answer t e (valid-passes t v)) by-answer
+  pub by-cases : P (stepOf t e)
+  unfolding stepOf
+  by-cases = byBool (not (tableOk t)) (λ f. rw (f, stepOf) (refused 9 (λ z. omega arith))) (λ f. rw (f, stepOf) by-answer)
