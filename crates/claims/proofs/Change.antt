@@ -1,21 +1,19 @@
 -- How one event changes one job: the five ways, told by whether the event admits the job, delivers a RESULT for it, or is a notice to the root that finds it.
 -- Assumes nothing.
 use Prim.Native.Nat.{ℕ, _+_, _≤_, _<_}
-use mathlib.Core.Path.{_≡_, refl, sym, ap, _∙_}
-use mathlib.Core.Logic.{_≢_}
-use mathlib.Core.Bool.{Bool, true, false, cond}
-use mathlib.Core.List.{List}
-use lib.Dec.{eqb}
+use mathlib.Core.Path.{_≡_, ap}
+use mathlib.Core.Bool.{Bool, true, false}
 use lib.ListN.{List·getD-eq-default}
 use native.Mathlib.Omega.{arith}
-use Rattle.lists.proofs.Cases.{byBool, byEq}
+use Rattle.lists.proofs.Cases.{byEq}
 use Rattle.table.specs.declared.Job.{Job}
 use Rattle.table.specs.declared.Message.{Message}
 use Rattle.table.specs.declared.Table.{Table}
-use Rattle.table.specs.Views.{noJob, jobAt, nodeAt, withJob, withMessages}
-use Rattle.table.specs.Messages.{push, pull, send}
+use Rattle.table.specs.Views.{noJob, jobAt, withJob}
+use Rattle.table.specs.Messages.{pull, send}
 use Rattle.table.specs.Parts.{opened, priced}
 use Rattle.table.proofs.Views.{Sized, job-same, job-other, job-messages}
+use Rattle.invariant.proofs.Flight.{view-send}
 
 -- w shows what v showed, but for its place; a priced job is untouched
 pub record Same (v w : Job) : Type 0 where
@@ -36,15 +34,6 @@ pub data Change (a d f : Bool) (p : ℕ) (v w : Job) : Type 0 where
   other : a ≡ false → d ≡ false → f ≡ false → Same v w → Change a d f p v w
 
 -- ---- jobs after a part of an event
-
--- either of two tables
-pub view-either : {A : Type 0} (f : Table → A) (v : A) (b : Bool) (t u : Table) → f t ≡ v → f u ≡ v → f (cond b t u) ≡ v
-view-either f v b t u d e = byBool b (λ c. rw c d) (λ c. rw c e)
-
--- a view that does not read the messages
-pub view-send : {A : Type 0} (f : Table → A) (t : Table) (x : Message) → ((n : ℕ) (l : List Message) → f (withMessages t n l) ≡ f t) → f (send t x) ≡ f t
-unfolding send push
-view-send f t x h = view-either f (f t) (eqb (nodeAt t (x .to) .alive) 1) _ t (h _ _) refl
 
 pub job-send : (t : Table) (x : Message) (j : ℕ) → jobAt (send t x) j ≡ jobAt t j
 job-send t x j = view-send (λ u. jobAt u j) t x (λ n l. job-messages t n l j)

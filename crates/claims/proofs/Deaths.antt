@@ -1,45 +1,40 @@
 -- The dead machines of a table are as many as the accepted events of code 6, counted from a table without any; and no replica number is above 1 + their number.
 -- Assumes nothing.
-use Prim.Native.Nat.{ℕ, suc, _+_, _≤_, _<_}
+use Prim.Native.Nat.{ℕ, _+_, _≤_, _<_}
 use mathlib.Core.Path.{_≡_, refl, sym, ap, _∙_}
 use mathlib.Core.Logic.{_≢_}
 use mathlib.Core.Bool.{Bool, true, false, not, cond, _&&_}
 use mathlib.Core.List.{List, [], _∷_}
 use native.Mathlib.Omega.{arith}
-use borrow.Author.Tests.{eqb-true, eqb-false, eq-eqb, ne-eqb, ltb-true, lt-ltb}
+use borrow.Author.Tests.{eqb-true, eq-eqb, ne-eqb, ltb-true, lt-ltb}
 use lib.Dec.{eqb, ltb}
 use Rattle.lists.specs.Scan.{countTo}
-use Rattle.lists.proofs.Cases.{byEq, and-left, and-right, or-elim}
+use Rattle.lists.proofs.Cases.{and-left, and-right, or-elim}
 use Rattle.lists.proofs.Count.{countTo-up, countTo-same, countTo-one}
 use Rattle.table.specs.declared.Machine.{Machine}
 use Rattle.table.specs.declared.Table.{Table}
 use Rattle.table.specs.declared.Answer.{Answer}
-use Rattle.table.specs.Views.{noMachine, bondAt, nodeAt, poolAt, toldAt, messageAt, withNode, withPool}
-use Rattle.table.specs.Messages.{oldest, pull, send}
-use Rattle.table.specs.Parts.{running, waiting, accept}
-use Rattle.table.proofs.Views.{Sized, views, node-messages}
+use Rattle.table.specs.Views.{nodeAt, toldAt, messageAt}
+use Rattle.table.specs.Messages.{oldest, pull}
+use Rattle.table.specs.Parts.{accept}
+use Rattle.table.proofs.Views.{node-messages}
 use Rattle.elements.specs.Elements.{toldOk}
 use Rattle.validity.specs.Validity.{bound}
 use Rattle.events.specs.Events.{admitted, stolen, delivered, started, finished, died}
-use Rattle.events.specs.Notice.{quieted, reissue, noticed}
+use Rattle.events.specs.Notice.{noticed}
 use Rattle.preservation.proofs.Facts.{told-dead}
 use Rattle.invariant.proofs.State.{Whole}
 use Rattle.invariant.proofs.Hand.{hand}
-use Rattle.invariant.proofs.Frame.{Frame, frame-refl, frame-node, frame-pool, node-enter}
-use Rattle.invariant.proofs.About.{alive-waiting, alive-running}
 use Rattle.invariant.proofs.Fixed.{fixed-admitted, fixed-stolen, fixed-delivered, fixed-started, fixed-finished, fixed-died, fixed-noticed}
 use Rattle.invariant.proofs.Died.{node-died, node-died-other}
-use Rattle.invariant.proofs.Quieted.{node-quieted, node-quieted-other}
-use Rattle.invariant.proofs.Reissued.{node-reissue}
-use Rattle.invariant.proofs.ConservedNotice.{alive-quieted}
+use Rattle.invariant.proofs.Alive.{alive-admitted, alive-stolen, alive-started, alive-finished, alive-noticed}
 use Rattle.invariant.proofs.Keeps.{whole-step}
 use Rattle.dispatcher.specs.Step.{codeOf, firstOf, secondOf, stepOf, runOf}
 use Rattle.dispatcher.proofs.Events.{Dying, by-cases}
 use Rattle.drain.proofs.Kept.{fixed-machines}
 use Rattle.drain.proofs.Weights.{lighter}
 use Rattle.claims.specs.History.{countOf, kills}
-use Rattle.claims.proofs.Runs.{run-more, count-more, count-none}
-use Rattle.claims.proofs.Change.{view-either, view-send}
+use Rattle.claims.proofs.Runs.{count-more, count-none}
 
 -- d is a dead machine of the table
 abbrev pub gone : Table → ℕ → Bool
@@ -47,55 +42,6 @@ gone t d = ltb d (t .machines) && not (eqb (nodeAt t d .alive) 1)
 
 abbrev pub deaths : Table → ℕ
 deaths t = countTo (λ d. gone t d) 16
-
--- ---- who lives after each event but Die
-
-module _ (t : Table) (w : Whole t) where
-  here : Frame t t
-  here = frame-refl t (w .sized)
-
-  machine-16 : (m : ℕ) → m < t .machines → m < 16
-  machine-16 m h = omega (arith, w .facts .machines-most)
-
-  alive-admitted : (a m : ℕ) → nodeAt (admitted t a) m .alive ≡ nodeAt t m .alive
-  unfolding admitted
-  alive-admitted a m = simp (views, node-enter)
-
-  -- a message is sent from a table u
-  alive-sent : (u : Table) → Frame t u → (m : ℕ) → (s : Table) → nodeAt s m ≡ nodeAt u m → nodeAt s m .alive ≡ nodeAt t m .alive
-  alive-sent u f m s e = ap (λ (n : Machine). n .alive) e ∙ f .alive m
-
-  alive-stolen : (a b m : ℕ) → a < 16 → nodeAt (stolen t a b) m .alive ≡ nodeAt t m .alive
-  unfolding stolen
-  alive-stolen a b m l =
-      let v = waiting (nodeAt t a) (b + 1) in
-      alive-sent (withNode t a v) (frame-node t t here a v l (alive-waiting (nodeAt t a) (b + 1))) m _ (view-send (λ u. nodeAt u m) (withNode t a v) _ (λ n k. node-messages (withNode t a v) n k m))
-
-  alive-delivered : (k m : ℕ) → k < t .«in_flight» → nodeAt (delivered t k) m .alive ≡ nodeAt t m .alive
-  unfolding delivered pull
-  alive-delivered k m l = lighter (pull t k) (messageAt t k) (hand t k w l) .alive m ∙ ap (λ (n : Machine). n .alive) (node-messages t _ _ m)
-
-  alive-started : (a b m : ℕ) → a < 16 → nodeAt (started t a b) m .alive ≡ nodeAt t m .alive
-  unfolding started
-  alive-started a b m l =
-      let u = withPool t a b 0 in
-      frame-node t u (frame-pool t t here a b 0) a (running (nodeAt t a) b (poolAt t a b)) l (alive-running (nodeAt t a) b (poolAt t a b)) .alive m
-
-  alive-finished : (a m : ℕ) → a < 16 → nodeAt (finished t a) m .alive ≡ nodeAt t m .alive
-  unfolding finished
-  alive-finished a m l =
-      let v = running (nodeAt t a) 0 0 in
-      alive-sent (withNode t a v) (frame-node t t here a v l (alive-running (nodeAt t a) 0 0)) m _ (view-send (λ u. nodeAt u m) (withNode t a v) _ (λ n k. node-messages (withNode t a v) n k m))
-
-  alive-noticed : (a b m : ℕ) → a < 16 → nodeAt (noticed t a b) m .alive ≡ nodeAt t m .alive
-  unfolding noticed
-  alive-noticed a b m l =
-      let q = quieted t a b in
-      let same : nodeAt q m .alive ≡ nodeAt t m .alive =
-      byEq m a
-      (λ e. rw e (ap (λ (n : Machine). n .alive) (node-quieted t a b (w .sized) l) ∙ alive-quieted (nodeAt t a) b))
-      (λ e. ap (λ (n : Machine). n .alive) (node-quieted-other t a b m e)) in
-      view-either (λ u. nodeAt u m .alive) (nodeAt t m .alive) (eqb a 0) (reissue q b) q (ap (λ (n : Machine). n .alive) (node-reissue q b m) ∙ same) same
 
 -- ---- the number of the dead
 
@@ -120,6 +66,13 @@ deaths-died t a w c =
 -- ---- any event
 
 module _ (t : Table) (w : Whole t) (e : List ℕ) where
+  machine-16 : (m : ℕ) → m < t .machines → m < 16
+  machine-16 m h = omega (arith, w .facts .machines-most)
+
+  alive-delivered : (k m : ℕ) → k < t .«in_flight» → nodeAt (delivered t k) m .alive ≡ nodeAt t m .alive
+  unfolding delivered pull
+  alive-delivered k m l = lighter (pull t k) (messageAt t k) (hand t k w l) .alive m ∙ ap (λ (n : Machine). n .alive) (node-messages t _ _ m)
+
   abbrev Counted : Answer → Type 0
   Counted x = deaths (x .table) ≡ deaths t + cond (eqb (x .number) 0 && eqb (codeOf e) 6) 1 0
 
@@ -135,13 +88,13 @@ module _ (t : Table) (w : Whole t) (e : List ℕ) where
       let b = secondOf e in
       by-cases Counted t e
       (λ n d. rw (ne-eqb n 0 d) (omega arith))
-      (λ c d. quiet (admitted t a) 1 c refl (fixed-admitted (λ s. s .machines) fixed-machines t a) (alive-admitted t w a))
-      (λ c d. quiet (stolen t a b) 2 c refl (fixed-stolen (λ s. s .machines) fixed-machines t a b) (λ m. alive-stolen t w a b m (machine-16 t w a (d .machine))))
-      (λ c d. quiet (delivered t (oldest t a b)) 3 c refl (fixed-delivered (λ s. s .machines) fixed-machines t (oldest t a b)) (λ m. alive-delivered t w (oldest t a b) m (d .slot)))
-      (λ c d. quiet (started t a b) 4 c refl (fixed-started (λ s. s .machines) fixed-machines t a b) (λ m. alive-started t w a b m (machine-16 t w a (d .machine))))
-      (λ c d. quiet (finished t a) 5 c refl (fixed-finished (λ s. s .machines) fixed-machines t a) (λ m. alive-finished t w a m (machine-16 t w a (d .machine))))
+      (λ c d. quiet (admitted t a) 1 c refl (fixed-admitted (λ s. s .machines) fixed-machines t a) (alive-admitted t (w .sized) a))
+      (λ c d. quiet (stolen t a b) 2 c refl (fixed-stolen (λ s. s .machines) fixed-machines t a b) (λ m. alive-stolen t (w .sized) a b m (machine-16 a (d .machine))))
+      (λ c d. quiet (delivered t (oldest t a b)) 3 c refl (fixed-delivered (λ s. s .machines) fixed-machines t (oldest t a b)) (λ m. alive-delivered (oldest t a b) m (d .slot)))
+      (λ c d. quiet (started t a b) 4 c refl (fixed-started (λ s. s .machines) fixed-machines t a b) (λ m. alive-started t (w .sized) a b m (machine-16 a (d .machine))))
+      (λ c d. quiet (finished t a) 5 c refl (fixed-finished (λ s. s .machines) fixed-machines t a) (λ m. alive-finished t (w .sized) a m (machine-16 a (d .machine))))
       (λ c d. rw (eq-eqb (codeOf e) 6 c) (deaths-died t a w d))
-      (λ c d. quiet (noticed t a b) 7 c refl (fixed-noticed (λ s. s .machines) fixed-machines t a b) (λ m. alive-noticed t w a b m (machine-16 t w a (d .machine))))
+      (λ c d. quiet (noticed t a b) 7 c refl (fixed-noticed (λ s. s .machines) fixed-machines t a b) (λ m. alive-noticed t (w .sized) a b m (machine-16 a (d .machine))))
 
 pub deaths-run : (t : Table) (es : List (List ℕ)) → Whole t → deaths (runOf t es) ≡ deaths t + countOf kills t es
 unfolding runOf

@@ -1,9 +1,9 @@
 -- "at most 879 further accepted events (no admission, steal or death) price every admitted bond", from any table of the invariant.
 -- Assumes nothing.
-use Prim.Native.Nat.{ℕ, zero, suc, _+_, _≤_, _<_}
-use mathlib.Core.Path.{_≡_, refl, sym, ap, _∙_}
+use Prim.Native.Nat.{ℕ, _+_, _<_}
+use mathlib.Core.Path.{_≡_, refl, ap}
 use mathlib.Core.Logic.{_≢_}
-use mathlib.Core.Bool.{Bool, true, _&&_}
+use mathlib.Core.Bool.{true}
 use mathlib.Core.List.{List, [], _∷_}
 use native.Mathlib.Omega.{arith}
 use borrow.Author.Tests.{ltb-true, ltb-false}
@@ -15,10 +15,10 @@ use Rattle.table.specs.declared.Table.{Table}
 use Rattle.table.specs.declared.Answer.{Answer}
 use Rattle.table.specs.Views.{jobAt}
 use Rattle.invariant.proofs.State.{Whole}
-use Rattle.dispatcher.specs.Step.{codeOf, stepOf, runOf}
-use Rattle.drain.proofs.Reach.{Accepted, Reach}
-use Rattle.drain.proofs.Drain.{Closed, drain}
-use Rattle.claims.specs.History.{answersOf, countOf, admits, resultsOf, stateAfter, isFurther, allFurther}
+use Rattle.dispatcher.specs.Step.{stepOf, runOf}
+use Rattle.drain.proofs.Reach.{Accepted}
+use Rattle.drain.proofs.Drain.{drain}
+use Rattle.claims.specs.History.{answersOf, countOf, admits, resultsOf, stateAfter, allFurther}
 use Rattle.claims.specs.Claims.{Further}
 use Rattle.claims.proofs.Change.{job-past}
 use Rattle.claims.proofs.History.{settled, open-run}

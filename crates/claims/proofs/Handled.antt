@@ -1,9 +1,9 @@
 -- What the handler of a message does to one job: only REQ, ACK and RESULT write one, REQ and ACK its place alone, RESULT the price of an open one.
 -- Assumes nothing.
-use Prim.Native.Nat.{ℕ, _+_, _≤_, _<_}
+use Prim.Native.Nat.{ℕ, _≤_, _<_}
 use mathlib.Core.Path.{_≡_, refl, sym, ap, _∙_}
 use mathlib.Core.Logic.{_≢_}
-use mathlib.Core.Bool.{Bool, true, false, not, cond, _&&_, _||_}
+use mathlib.Core.Bool.{true, false, not, _&&_, _||_}
 use native.Mathlib.Omega.{arith}
 use borrow.Author.Tests.{eqb-true, eqb-false, eq-eqb, ne-eqb}
 use lib.Dec.{eqb, leb}
@@ -11,19 +11,18 @@ use Rattle.lists.proofs.Cases.{byBool, byEq, and-left, or-left-false}
 use Rattle.table.specs.declared.Job.{Job}
 use Rattle.table.specs.declared.Message.{Message}
 use Rattle.table.specs.declared.Table.{Table}
-use Rattle.table.specs.Views.{noJob, jobAt, nodeAt, poolAt, toldAt, messageAt, withJob, withNode, withPool, enter}
-use Rattle.table.specs.Messages.{send, lowest, pull}
+use Rattle.table.specs.Views.{jobAt, nodeAt, toldAt, messageAt, withJob}
+use Rattle.table.specs.Messages.{lowest, pull}
 use Rattle.table.specs.Parts.{moved, placed, priced, reserves, returned, OBSOLETE, DENIED, AUTH, RESULT}
-use Rattle.table.proofs.Views.{Sized, views, job-same, job-other, job-node}
+use Rattle.table.proofs.Views.{views, job-same, job-other, job-node}
 use Rattle.handlers.specs.Handlers.{noWork, grant, onFish, reply, onReq, onAuth, onDenied, onObsolete, onSchedule, onAck, onNoWork, onResult, handle}
 use Rattle.events.specs.Events.{delivered}
-use Rattle.preservation.proofs.Facts.{JobFacts}
 use Rattle.invariant.proofs.State.{Known, Hand, Whole}
 use Rattle.invariant.proofs.Hand.{hand}
-use Rattle.invariant.proofs.Flight.{every-taken}
+use Rattle.invariant.proofs.Flight.{every-taken, view-either}
 use Rattle.invariant.proofs.Frame.{job-enter}
 use Rattle.invariant.proofs.ByKind.{by-kind}
-use Rattle.claims.proofs.Change.{Same, same-job, Change, view-either, job-send, job-pull, same-with}
+use Rattle.claims.proofs.Change.{Same, same-job, Change, job-send, job-pull, same-with}
 use Rattle.claims.proofs.Change.Change.{pricing, late, other}
 
 -- ---- the handlers that write no job
@@ -40,12 +39,12 @@ module _ (s : Table) (x : Message) (j : ℕ) where
   job-fish : jobAt (onFish s x) j ≡ jobAt s j
   unfolding onFish
   job-fish =
-      view-either (λ u. jobAt u j) (jobAt s j) (not (eqb (nodeAt s (x .to) .«reserved_replica») 0)) _ _ (job-noWork s (x .to) (x .from))
-      (view-either (λ u. jobAt u j) (jobAt s j) (leb 64 (lowest s (x .to))) _ _ (job-noWork s (x .to) (x .from)) (job-grant (x .to) (x .from) (lowest s (x .to))))
+      view-either (λ u. jobAt u j) (not (eqb (nodeAt s (x .to) .«reserved_replica») 0)) _ _ (jobAt s j) (job-noWork s (x .to) (x .from))
+      (view-either (λ u. jobAt u j) (leb 64 (lowest s (x .to))) _ _ (jobAt s j) (job-noWork s (x .to) (x .from)) (job-grant (x .to) (x .from) (lowest s (x .to))))
 
   job-auth : jobAt (onAuth s x) j ≡ jobAt s j
   unfolding onAuth
-  job-auth = view-either (λ u. jobAt u j) (jobAt s j) (reserves (nodeAt s (x .to)) (x .job) (x .replica) (x .thief)) _ s (job-send _ _ j ∙ job-node s (x .to) _ j) refl
+  job-auth = view-either (λ u. jobAt u j) (reserves (nodeAt s (x .to)) (x .job) (x .replica) (x .thief)) _ s (jobAt s j) (job-send _ _ j ∙ job-node s (x .to) _ j) refl
 
   job-returned : (m : ℕ) → jobAt (returned s m) j ≡ jobAt s j
   unfolding returned
@@ -53,11 +52,11 @@ module _ (s : Table) (x : Message) (j : ℕ) where
 
   job-denied : jobAt (onDenied s x) j ≡ jobAt s j
   unfolding onDenied
-  job-denied = view-either (λ u. jobAt u j) (jobAt s j) (reserves (nodeAt s (x .to)) (x .job) (x .replica) (x .thief)) _ s (job-noWork _ (x .to) (x .thief) ∙ job-returned (x .to)) refl
+  job-denied = view-either (λ u. jobAt u j) (reserves (nodeAt s (x .to)) (x .job) (x .replica) (x .thief)) _ s (jobAt s j) (job-noWork _ (x .to) (x .thief) ∙ job-returned (x .to)) refl
 
   job-obsolete : jobAt (onObsolete s x) j ≡ jobAt s j
   unfolding onObsolete
-  job-obsolete = view-either (λ u. jobAt u j) (jobAt s j) (reserves (nodeAt s (x .to)) (x .job) (x .replica) (x .thief)) _ s (job-noWork _ (x .to) (x .thief) ∙ job-node s (x .to) _ j) refl
+  job-obsolete = view-either (λ u. jobAt u j) (reserves (nodeAt s (x .to)) (x .job) (x .replica) (x .thief)) _ s (jobAt s j) (job-noWork _ (x .to) (x .thief) ∙ job-node s (x .to) _ j) refl
 
   job-schedule : jobAt (onSchedule s x) j ≡ jobAt s j
   unfolding onSchedule
@@ -141,7 +140,7 @@ module _ (s : Table) (x : Message) (h : Hand s x) (cap : x .replica ≤ jobAt s 
       let two : v .state ≡ 2 = omega (arith, admitted k, eqb-false (v .state) 1 a, h .facts .job (x .job) (h .message .job) .state) in
       rw (a, onResult) (late refl d refl (ap (λ (i : ℕ). jobAt s i .state) (sym e) ∙ two) refl)))
       (λ e. other refl (rw (kb, ne-eqb (x .job) j e) refl) refl
-      (same-job _ _ (view-either (λ u. jobAt u j) (jobAt s j) (eqb (v .state) 1) _ s (job-other s (x .job) j _ (λ z. e (sym z))) refl)))
+      (same-job _ _ (view-either (λ u. jobAt u j) (eqb (v .state) 1) _ s (jobAt s j) (job-other s (x .job) j _ (λ z. e (sym z))) refl)))
 
   after-handle : After (handle s x)
   after-handle =

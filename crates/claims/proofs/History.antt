@@ -16,9 +16,9 @@ use Rattle.table.specs.Parts.{opened, priced}
 use Rattle.invariant.proofs.State.{Whole}
 use Rattle.dispatcher.specs.Step.{stepOf, runOf}
 use Rattle.claims.specs.History.{countOf, admits, finds, delivers, takenOff, resultsOf, stateAfter}
-use Rattle.claims.proofs.Runs.{run-more, count-more, count-none, results-none, results-yes, results-no}
+use Rattle.claims.proofs.Runs.{run-more, count-more, count-none, results-yes, results-no}
 use Rattle.invariant.proofs.Keeps.{whole-step}
-use Rattle.claims.proofs.Change.{Same, Change}
+use Rattle.claims.proofs.Change.{Change}
 use Rattle.claims.proofs.Change.Change.{admission, pricing, late, finding, other}
 use Rattle.claims.proofs.Steps.{change-step}
 

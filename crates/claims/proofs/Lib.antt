@@ -6,3 +6,5 @@ pub mod History
 pub mod Deaths
 pub mod Shown
 pub mod Further
+pub mod Start
+pub mod Demand3

@@ -1,11 +1,10 @@
 -- Runs: a list of events after another, and what `Answered` says of an event wherever it stands in its list.
 -- Assumes nothing.
-use Prim.Native.Nat.{ℕ, zero, suc, _+_}
-use mathlib.Core.Path.{_≡_, refl, sym, ap, _∙_}
+use Prim.Native.Nat.{ℕ, _+_}
+use mathlib.Core.Path.{_≡_, refl, _∙_}
 use mathlib.Core.Logic.{_≢_}
 use mathlib.Core.Bool.{Bool, true, false, cond}
 use mathlib.Core.List.{List, [], _∷_, _++_}
-use native.Mathlib.Omega.{arith}
 use lib.ListN.{length, getD}
 use Rattle.table.specs.declared.Table.{Table}
 use Rattle.table.specs.declared.Answer.{Answer}
@@ -60,10 +59,6 @@ count-more p t e es = refl
 pub count-none : (p : Table → List ℕ → Bool) (t : Table) → countOf p t [] ≡ 0
 unfolding countOf
 count-none p t = refl
-
-pub results-none : (j : ℕ) (t : Table) → resultsOf j t [] ≡ []
-unfolding resultsOf
-results-none j t = refl
 
 pub results-yes : (j : ℕ) (t : Table) (e : List ℕ) (es : List (List ℕ)) → delivers j t e ≡ true → resultsOf j t (e ∷ es) ≡ takenOff t e .price ∷ resultsOf j (stepOf t e .table) es
 unfolding resultsOf

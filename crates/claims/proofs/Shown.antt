@@ -1,15 +1,12 @@
 -- What the table after a list of events shows of one job, where the first event is given a table of the invariant that has the book's terms, no job
 -- admitted and no machine dead.
 -- Assumes nothing.
-use Prim.Native.Nat.{ℕ, zero, suc, _+_, _≤_, _<_}
+use Prim.Native.Nat.{ℕ, _+_, _≤_, _<_}
 use mathlib.Core.Path.{_≡_, refl, sym, ap, _∙_}
-use mathlib.Core.List.{List, [], _∷_}
+use mathlib.Core.List.{List}
 use native.Mathlib.Omega.{arith}
-use lib.ListN.{getD, length, length-append, List·getD-append}
-use lib.Seq.{getD-at}
-use native.Mathlib.Nat.{not-suc-le-zero}
-use Rattle.lists.proofs.Cases.{byEq}
-use Rattle.lists.specs.Scan.{listOf}
+use lib.ListN.{getD}
+use Rattle.lists.proofs.Scans.{list-at}
 use Rattle.pricer.specs.Price.{priceBits}
 use Rattle.book.specs.Parts.{entryCount, bondOf}
 use Rattle.table.specs.declared.Job.{Job}
@@ -20,9 +17,9 @@ use Rattle.invariant.proofs.Fixed.{Fixed, fixed-bond, fixed-admitted, fixed-sto
 use Rattle.invariant.proofs.Keeps.{whole-run}
 use Rattle.dispatcher.specs.Step.{runOf}
 use Rattle.dispatcher.proofs.ByEvent.{Kept, by-run}
-use Rattle.claims.specs.History.{countOf, admits, kills, resultsOf, stateAfter, serialOf}
+use Rattle.claims.specs.History.{countOf, admits, kills, serialOf}
 use Rattle.claims.specs.Claims.{Shown}
-use Rattle.claims.proofs.History.{Shows, new-run}
+use Rattle.claims.proofs.History.{new-run}
 use Rattle.claims.proofs.Deaths.{deaths, deaths-run, bound-deaths}
 
 -- ---- what no update writes stays along a run
@@ -43,23 +40,9 @@ bond-run t es j = by-run (λ u. bondAt u j ≡ bondAt t j) (fixed-kept (λ u. bo
 
 -- ---- one machine, bond after bond
 
-length-list : {A : Type 0} (f : ℕ → A) (i : ℕ) → length (listOf f i) ≡ i
-unfolding listOf
-length-list f zero = refl
-length-list f (suc i) = omega (arith, length-append (listOf f i) (f i ∷ []), length-list f i)
-
-list-at : {A : Type 0} (f : ℕ → A) (m i : ℕ) (b : A) → i < m → getD (listOf f m) i b ≡ f i
-unfolding listOf
-list-at f zero i b h = absurd (not-suc-le-zero h)
-list-at f (suc m) i b h =
-    let l = length-list f m in
-    byEq i m
-    (λ e. getD-at (listOf f m) (f m) [] b i (omega arith) ∙ ap f (sym e))
-    (λ e. List·getD-append (listOf f m) (f m ∷ []) b i (omega arith) ∙ list-at f m i b (omega arith))
-
 serial-at : (book : List ℕ) (j : ℕ) → j < entryCount book → getD (serialOf book) j 0 ≡ priceBits (bondOf book j)
 unfolding serialOf
-serial-at book j l = list-at (λ i. priceBits (bondOf book i)) (entryCount book) j 0 l
+serial-at book j l = list-at (λ i. priceBits (bondOf book i)) 0 0 (entryCount book) j 0 l
 
 -- ---- the job
 

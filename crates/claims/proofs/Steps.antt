@@ -1,9 +1,9 @@
 -- What one event, accepted or refused, does to one job of a table of the invariant.
 -- Assumes nothing.
-use Prim.Native.Nat.{ℕ, _+_, _<_}
+use Prim.Native.Nat.{ℕ, _<_}
 use mathlib.Core.Path.{_≡_, refl, sym, ap, _∙_}
 use mathlib.Core.Logic.{_≢_}
-use mathlib.Core.Bool.{Bool, true, false, cond, _&&_, _||_}
+use mathlib.Core.Bool.{Bool, false, _&&_, _||_}
 use mathlib.Core.List.{List}
 use native.Mathlib.Omega.{arith}
 use borrow.Author.Tests.{eqb-true, eq-eqb, ne-eqb}
@@ -15,7 +15,7 @@ use Rattle.table.specs.declared.Answer.{Answer}
 use Rattle.table.specs.Views.{jobAt, withJob}
 use Rattle.table.specs.Messages.{oldest}
 use Rattle.table.specs.Parts.{opened, accept, RESULT}
-use Rattle.table.proofs.Views.{Sized, views, job-same, job-other, job-node}
+use Rattle.table.proofs.Views.{views, job-same, job-other, job-node}
 use Rattle.events.specs.Events.{admitted, stolen, delivered, started, finished, died}
 use Rattle.events.specs.Notice.{lost, quieted, reissue, noticed}
 use Rattle.preservation.proofs.Sizes.{sized-quieted}
@@ -26,8 +26,8 @@ use Rattle.invariant.proofs.Quieted.{job-quieted}
 use Rattle.invariant.proofs.Reissued.{reissuedJob, job-reissue}
 use Rattle.dispatcher.specs.Step.{codeOf, firstOf, secondOf, stepOf}
 use Rattle.claims.specs.History.{admits, delivers, finds, takenOff}
-use Rattle.dispatcher.proofs.Events.{Admitting, Delivering, Noticing, by-cases}
-use Rattle.claims.proofs.Change.{Same, same-job, Change, job-send}
+use Rattle.dispatcher.proofs.Events.{Admitting, by-cases}
+use Rattle.claims.proofs.Change.{same-job, Change, job-send}
 use Rattle.claims.proofs.Change.Change.{admission, finding, other}
 use Rattle.claims.proofs.Handled.{change-delivered}
 

@@ -16,6 +16,7 @@ use Rattle.table.specs.declared.Job.{Job}
 use Rattle.table.specs.declared.Table.{Table}
 use Rattle.table.specs.declared.Answer.{Answer}
 use Rattle.table.specs.Views.{jobAt}
+use Rattle.opening.specs.Opening.{openOf}
 use Rattle.dispatcher.specs.Step.{stepOf, runOf}
 use Rattle.claims.specs.History.{answersOf, countOf, admits, kills, finds, resultsOf, stateAfter, serialOf, allFurther}
 
@@ -55,3 +56,11 @@ pub record Further (t : Table) : Type 0 where
   pub accepted : answersOf t events ≡ replicate (length events) 0
   pub only : allFurther events ≡ true
   pub priced : (j : ℕ) → jobAt t j .state ≢ 0 → jobAt (runOf t events) j .state ≡ 2
+
+pub record Demand3 (book : List ℕ) (events : List (List ℕ)) : Type 0 where
+  pub answers : (front : List (List ℕ)) (e : List ℕ) (back : List (List ℕ)) → events ≡ front ++ e ∷ back → Answered (openOf book .table) front e back
+  pub shown : (j : ℕ) → j < entryCount book → Shown book (openOf book .table) events j (jobAt (runOf (openOf book .table) events) j)
+  -- "a priced bond stays priced at that price", whatever events follow
+  pub stays : (later : List (List ℕ)) (j : ℕ) → jobAt (runOf (openOf book .table) events) j .state ≡ 2
+      → jobAt (runOf (openOf book .table) (events ++ later)) j ≡ jobAt (runOf (openOf book .table) events) j
+  pub further : Further (runOf (openOf book .table) events)

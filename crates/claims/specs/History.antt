@@ -69,7 +69,7 @@ serialOf book = listOf (λ i. priceBits (bondOf book i)) (entryCount book)
 
 -- neither an admission (1), nor a steal (2), nor a death (6)
 abbrev pub isFurther : ℕ → Bool
-isFurther code = eqb code 3 || eqb code 4 || eqb code 5 || eqb code 7
+isFurther code = eqb code 3 || (eqb code 4 || (eqb code 5 || eqb code 7))
 
 unfoldable pub allFurther : List (List ℕ) → Bool
 allFurther [] = true
