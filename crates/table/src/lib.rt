@@ -1,5 +1,7 @@
 // The table: one struct with flat arrays for bonds, jobs, machines, pools and messages. It is passed and returned by value.
 // What each field holds is listed at the head of specs/Views.antt. What is unused is 0 throughout.
+ghost use mathlib.Core.Path.{_≡_};
+ghost use Rattle.table.specs.Views.{refuse};
 use pricer::Bond;
 
 pub struct Job {
@@ -48,3 +50,43 @@ pub struct Answer {
     pub number: u8,
     pub table: Table,
 }
+
+// "A refusal returns its number; table and buffers are unchanged"
+pub fn refuse(number: u8, t: Table) -> Answer
+    ensures { λ r. ⌜ r ≡ refuse number t ⌝ }
+{
+    Answer {
+        number: number,
+        table: t,
+    }
+}
+
+// The kinds of a message, named as in document 01.
+pub const FISH: u8 = 1;
+
+pub const REQ: u8 = 2;
+
+pub const AUTH: u8 = 3;
+
+pub const DENIED: u8 = 4;
+
+pub const OBSOLETE: u8 = 5;
+
+pub const SCHEDULE: u8 = 6;
+
+pub const ACK: u8 = 7;
+
+pub const NOWORK: u8 = 8;
+
+pub const RESULT: u8 = 9;
+
+// What an unused slot holds.
+pub const NO_MESSAGE: Message = Message {
+    kind: 0,
+    from: 0,
+    to: 0,
+    job: 0,
+    replica: 0,
+    thief: 0,
+    price: 0,
+};

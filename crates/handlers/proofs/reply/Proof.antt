@@ -1,0 +1,18 @@
+-- `handlers::reply` meets its contract.
+-- Assumes nothing.
+use borrow.Author.Needs.{needs}
+use Rattle.lists.proofs.Rules.{flags}
+use Rattle.table.specs.Parts.{message}
+use Rattle.handlers.specs.Handlers.{reply}
+use Rattle.handlers.proofs.reply.Statement.{statement}
+use Rattle.handlers.proofs.reply.Tie as tie
+
+send-requires : tie.Need-send-requires
+send-requires c κs = search needs
+
+returns : tie.Need-returns
+unfolding reply message
+returns c = search flags
+
+pub reply-spec : {M : Type 1} → statement M
+reply-spec = tie.close (tie.spec send-requires returns)

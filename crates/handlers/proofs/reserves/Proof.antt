@@ -1,0 +1,13 @@
+-- `handlers::reserves` meets its contract.
+-- Assumes nothing.
+use Rattle.lists.proofs.Rules.{flags}
+use Rattle.table.specs.Parts.{copyIs, reserves}
+use Rattle.handlers.proofs.reserves.Statement.{statement}
+use Rattle.handlers.proofs.reserves.Tie as tie
+
+returns : tie.Need-returns
+unfolding reserves copyIs
+returns c = search flags
+
+pub reserves-spec : {M : Type 1} → statement M
+reserves-spec = tie.close (tie.spec returns)

@@ -1,0 +1,99 @@
+-- `messages::drop` meets its contract. The loop keeps: `out` holds, from its first slot, the messages passed so far that stay.
+-- Assumes nothing.
+use Prim.Native.Nat.{_-_, _≤_}
+use lib.ListN.{length, take}
+use mathlib.Core.Path.{_∙_, _≡_, sym}
+use native.Mathlib.Omega.{arith}
+use Rattle.lists.proofs.Rules.{tests}
+use Rattle.lists.proofs.Scans.{Kept, kept-no, kept-none, kept-yes}
+use Rattle.lists.specs.Scan.{keep, padTo}
+use Rattle.table.proofs.Long.{long}
+use Rattle.table.specs.Messages.{sift}
+use Rattle.table.specs.Views.{noMessage, parts}
+use Rattle.messages.specs.Others.{others}
+use Rattle.messages.proofs.drop.Statement.{statement}
+use Rattle.messages.proofs.drop.Tie as tie
+
+abbrev Inv-loop : tie.InvT-loop
+Inv-loop any from to t n out₀ w₀ i₀ out w i = (i ≤ n) × Kept (others any from to) (t .messages) 128 noMessage i w out
+
+abbrev μ-loop : tie.MeasureT-loop
+μ-loop any from to t n out₀ w₀ i₀ out w i = n - i
+
+full : (c : tie.Start Inv-loop μ-loop) → length (c .args .t1 .messages) ≡ 128
+full c = long (c .args .t1) _ (c .good .0) .messages
+
+cast-n : tie.Need-cast-n Inv-loop μ-loop
+cast-n c = search tests
+
+loop-holds : tie.Need-loop-holds Inv-loop μ-loop
+loop-holds c = (search tests, kept-none _ _ _ _)
+
+mul-m : tie.Need-mul-m Inv-loop μ-loop
+mul-m c = search tests
+
+element-copy-out-m : tie.Need-element-copy-out-m Inv-loop μ-loop
+element-copy-out-m c = search tests
+
+add-i : tie.Need-add-i Inv-loop μ-loop
+add-i c = search tests
+
+stays-requires : tie.Need-stays-requires Inv-loop μ-loop
+stays-requires c κs = search tests
+
+mul-out : tie.Need-mul-out Inv-loop μ-loop
+mul-out c = search tests
+
+array-set-from-out : tie.Need-array-set-from-out Inv-loop μ-loop
+array-set-from-out c = search tests
+
+add-w : tie.Need-add-w Inv-loop μ-loop
+add-w c = search tests
+
+loop-less : tie.Need-loop-less Inv-loop μ-loop
+loop-less c = search tests
+
+loop-again : tie.Need-loop-again Inv-loop μ-loop
+loop-again c = (search tests, kept-yes _ _ _ _ _ _ _ (c .before .before .before .before .loop .inv .1) (omega (arith, full (c .before .before .before .before .before))) (search tests) (sym (c .before .stays .ensures) ∙ c .if1 .taken))
+
+loop-less-2 : tie.Need-loop-less-2 Inv-loop μ-loop
+loop-less-2 c = search tests
+
+loop-again-2 : tie.Need-loop-again-2 Inv-loop μ-loop
+loop-again-2 c = (search tests, kept-no _ _ _ _ _ _ _ (c .before .before .before .before .loop .inv .1) (omega (arith, full (c .before .before .before .before .before))) (sym (c .before .stays .ensures) ∙ c .if1 .left))
+
+cast-u : tie.Need-cast-u Inv-loop μ-loop
+cast-u c = search tests
+
+returns : tie.Need-returns Inv-loop μ-loop
+unfolding sift parts
+returns c =
+    let a = c .before .before .args in
+    let p = others (a .any) (a .from) (a .to) in
+    let e : c .before .loop .i ≡ a .t1 .«in_flight» = omega arith in
+    let k = c .before .loop .inv .1 in
+    let x : c .before .loop .w ≡ length (keep p (take (a .t1 .«in_flight») (a .t1 .messages))) = rw e at (k .count) in
+    let y : c .before .loop .out ≡ padTo 128 noMessage (keep p (take (a .t1 .«in_flight») (a .t1 .messages))) = rw e at (k .slots) in
+    rw (x, y)
+
+pub drop-spec : {M : Type 1} → statement M
+drop-spec =
+    tie.close
+    (tie.spec
+    Inv-loop
+    μ-loop
+    cast-n
+    loop-holds
+    mul-m
+    element-copy-out-m
+    add-i
+    stays-requires
+    mul-out
+    array-set-from-out
+    add-w
+    loop-less
+    loop-again
+    loop-less-2
+    loop-again-2
+    cast-u
+    returns)

@@ -1,0 +1,67 @@
+-- `messages::oldest` meets its contract. The loop keeps: no message passed so far is of the channel.
+-- Assumes nothing.
+use Prim.Native.Nat.{_-_, _≤_}
+use mathlib.Core.Path.{_∙_, _≡_, sym}
+use Rattle.lists.proofs.Rules.{tests}
+use Rattle.lists.proofs.Scans.{least-end, least-found, least-more, least-none}
+use Rattle.lists.specs.Scan.{least}
+use Rattle.table.specs.Messages.{chan, oldest}
+use Rattle.table.specs.Views.{messageAt, parts}
+use Rattle.messages.proofs.oldest.Statement.{statement}
+use Rattle.messages.proofs.oldest.Tie as tie
+
+abbrev Inv-loop : tie.InvT-loop
+Inv-loop a b t n i₀ i = (i ≤ n) × (least (λ k. chan a b (messageAt t k)) i ≡ i)
+
+abbrev μ-loop : tie.MeasureT-loop
+μ-loop a b t n i₀ i = n - i
+
+cast-n : tie.Need-cast-n Inv-loop μ-loop
+cast-n c = search tests
+
+loop-holds : tie.Need-loop-holds Inv-loop μ-loop
+loop-holds c = (search tests, least-none _)
+
+mul-m : tie.Need-mul-m Inv-loop μ-loop
+mul-m c = search tests
+
+element-copy-out-m : tie.Need-element-copy-out-m Inv-loop μ-loop
+element-copy-out-m c = search tests
+
+in-channel-requires : tie.Need-in-channel-requires Inv-loop μ-loop
+in-channel-requires c κs = search tests
+
+returns : tie.Need-returns Inv-loop μ-loop
+unfolding oldest parts
+returns c = sym (least-found _ _ _ (search tests) (search tests) (sym (c .before .in-channel .ensures) ∙ c .if1 .taken))
+
+add-i : tie.Need-add-i Inv-loop μ-loop
+add-i c = search tests
+
+loop-less : tie.Need-loop-less Inv-loop μ-loop
+loop-less c = search tests
+
+loop-again : tie.Need-loop-again Inv-loop μ-loop
+unfolding parts
+loop-again c = (search tests, least-more _ _ (search tests) (sym (c .before .in-channel .ensures) ∙ c .if1 .left))
+
+returns-2 : tie.Need-returns-2 Inv-loop μ-loop
+unfolding oldest parts
+returns-2 c = least-end _ _ _ (search tests) (search tests) (search tests)
+
+pub oldest-spec : {M : Type 1} → statement M
+oldest-spec =
+    tie.close
+    (tie.spec
+    Inv-loop
+    μ-loop
+    cast-n
+    loop-holds
+    mul-m
+    element-copy-out-m
+    in-channel-requires
+    returns
+    add-i
+    loop-less
+    loop-again
+    returns-2)

@@ -1,0 +1,51 @@
+-- `messages::send` meets its contract.
+-- Assumes nothing.
+use borrow.Author.Needs.{needs}
+use Rattle.lists.proofs.Rules.{flags}
+use Rattle.table.specs.Messages.{push, send}
+use Rattle.table.specs.Views.{parts}
+use Rattle.messages.proofs.send.Statement.{statement}
+use Rattle.messages.proofs.send.Tie as tie
+
+cast-to : tie.Need-cast-to
+cast-to c = search needs
+
+mul-node : tie.Need-mul-node
+mul-node c = search needs
+
+element-copy-out-node : tie.Need-element-copy-out-node
+element-copy-out-node c = search needs
+
+returns : tie.Need-returns
+unfolding send push parts
+returns c = search flags
+
+cast-n : tie.Need-cast-n
+cast-n c = search needs
+
+mul-m : tie.Need-mul-m
+mul-m c = search needs
+
+element-set-from-m : tie.Need-element-set-from-m
+element-set-from-m c = search needs
+
+add-u : tie.Need-add-u
+add-u c = search needs
+
+returns-2 : tie.Need-returns-2
+unfolding send push parts
+returns-2 c = search flags
+
+pub send-spec : {M : Type 1} → statement M
+send-spec =
+    tie.close
+    (tie.spec
+    cast-to
+    mul-node
+    element-copy-out-node
+    returns
+    cast-n
+    mul-m
+    element-set-from-m
+    add-u
+    returns-2)
