@@ -75,3 +75,7 @@ then {d} {at} {a} {e} {m} {b} {f} {r} g h k =
       text = h .text ∙ ap (λ (x : List ℕ). over x m b) (g .text) ∙ ap (λ (n : ℕ). over (over d at a) n b) (g .end) ∙ over-over d at a b k;
       end = omega (arith, h .end, g .end, length-append a b);
     }
+
+pub then-two : {d : List ℕ} {at : ℕ} {a : List ℕ} {e : List ℕ} {m : ℕ} {b : List ℕ} {f : List ℕ} {r : ℕ} {w : List ℕ} {g : List ℕ} {s : ℕ}
+    → Written d at a e m → Written e m b f r → Written f r w g s → at + length (a ++ b ++ w) ≤ length d → Written d at (a ++ b ++ w) g s
+then-two {d} {at} {a} {e} {m} {b} {f} {r} {w} p q t k = then (then p q (omega (arith, length-append (a ++ b) w))) t k

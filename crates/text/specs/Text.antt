@@ -3,8 +3,15 @@ use Prim.Native.Nat.{ℕ, zero, suc, _+_, _/_, _%_}
 use mathlib.Core.Path.{_≡_}
 use mathlib.Core.Bool.{cond}
 use mathlib.Core.List.{List, [], _∷_, _++_}
+use Prim.Native.Char.{code}
+use Prim.Native.String.{String, [] as []ˢ, _∷_ as _∷ˢ_}
 use lib.Dec.{ltb}
 use lib.ListN.{length, take, drop}
+
+-- a word in ASCII
+abbrev pub ascii : String → List ℕ
+ascii []ˢ = []
+ascii (c ∷ˢ s) = code c ∷ ascii s
 
 -- the buffer d with w written over it from position at on
 unfoldable pub over : List ℕ → ℕ → List ℕ → List ℕ
