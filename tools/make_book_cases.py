@@ -4,9 +4,9 @@
 To run, at the root of the repository: /usr/bin/python3 tools/make_book_cases.py
 It needs Python's standard library only (last run with Python 3.11).
 
-The functions of the first part are an implementation of document 01's "The book", "The identifier" and "The price", and of the rows Book
-and Lowest faulty entry of its table of refusals, written from that text alone. Each case that is not random has its number stated
-beside it; the script fails where the implementation has another.
+The functions of the first part implement document 01's "The book", "The identifier" and "The price", and the rows Book and Lowest faulty
+entry of its table of refusals. They share nothing with the crates. Each case that is not random has its number stated beside it; the
+script fails where these functions have another.
 
 The result depends on nothing else: the random choices have a fixed seed.
 """
@@ -117,7 +117,7 @@ def term(kind=2, periods=2, coupon=4.0, ytm=0.0, spare=0):
 
 
 def plain_term(i):
-    """A term of its own for each entry number below 240, so that no two entries have one price."""
+    """A term for each entry number below 64, no two of one price."""
     return term(1, i + 1, 0.0, 0.05) if i % 2 == 0 else term(2, i + 1, i / 8, 0.0375)
 
 
@@ -240,7 +240,7 @@ def faults():
 
 
 def of_two(first, second):
-    """Faults of these numbers at two entries, the lower one first. An identifier is repeated at entry 2 at the earliest."""
+    """Faults of these numbers at two entries, the lower one first. Entry 0 has none, and its identifier is the one repeated."""
     for n, i, k in ((3, 1, 2), (5, 1, 3), (5, 2, 4)):
         names = {at: {4: BAD_FORM, 5: BAD_DIGIT, 6: name(0)}[f] for at, f in ((i, first), (k, second)) if f != 7}
         terms = {at: BAD_TERM for at, f in ((i, first), (k, second)) if f == 7}
@@ -398,6 +398,7 @@ def main():
     fail_unless(name(0) == b"ZZ0000000016" and name(1) == b"ZZ0000000024", "the identifiers of document 01")
     for bond, price in ((term(), 104.0), (term(1, 2, 0.0, 0.5), 64.0), (term(2, 1, 10.0, 0.5), 84.0)):
         fail_unless(price_of(bond) == price, "the prices of document 01")
+    fail_unless(len({price_of(plain_term(i)) for i in range(64)}) == 64, "two plain terms of one price")
     lines = []
     for file, cases in (("sizes.bin", sizes()), ("faults.bin", faults()), ("pairs.bin", pairs()), ("random.bin", random_books())):
         lines += write_file(file, list(cases))

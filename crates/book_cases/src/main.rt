@@ -1,10 +1,11 @@
 // Compares the numbers of books and the parts of their entries with those of another implementation of document 01
 // (tools/make_book_cases.py). Prints, for each number from 0 to 7, how many books agree and how many are expected to have it.
 //
-// A record begins with 6 bytes: the length of the book, little-endian; the expected number; the machine count and the entry count (0 for
-// a refused book); how many questions are asked. Then come the book and the questions.
-// A question has 25 bytes: an entry number, 4 bytes, little-endian; the number that goes with its identifier; the identifier; the bits of its
-// price, little-endian. The last two are 0 where the number is not 0.
+// A record begins with 6 bytes: the length of the book in two; the expected number; the machine count and the entry count, 0 for a
+// refused book; how many questions are asked. Then come the book and the questions.
+// A question has 25 bytes: an entry number in four; the number that goes with its identifier; the identifier; the bits of its price.
+// The last two are 0 where the number is not 0. All is little-endian.
+ghost use mathlib.Core.Path.{_≡_};
 ghost use Prim.Native.Nat.{_≤_, _<_};
 ghost use lib.ListN.{length};
 
@@ -17,6 +18,7 @@ enum Which {
     Differing,
 }
 
+// A byte as a size, with its bound.
 fn wide(x: u8) -> usize
     ensures { λ r. ⌜ r < 256 ⌝ }
 {
@@ -36,10 +38,9 @@ fn record_size(s: &[u8]) -> usize
 }
 
 // Whether the book's identifier and price at an entry number are as the question expects.
-fn entry_agrees(book: &[u8], question: &[u8]) -> bool {
-    if question.len() != 25 {
-        return false;
-    }
+fn entry_agrees(book: &[u8], question: &[u8]) -> bool
+    requires { ⌜ length (now question) ≡ 25 ⌝ }
+{
     let i = endian::u32_at(question, 0) as usize;
     if book::identifier_number(book, i) != question[4] {
         return false;
@@ -76,12 +77,13 @@ fn sizes_agree(book: &[u8], number: u8, machines: u8, entries: u8) -> bool {
     (book::machines(book) == machines) & (book::entries(book) == entries)
 }
 
+// Whether the record is whole, and its book and entries are as it expects.
 fn agrees(record: &[u8]) -> bool {
     if record.len() < 6 {
         return false;
     }
     let end = 6 + endian::u16_at(record, 0) as usize;
-    if record.len() < end {
+    if record.len() != end + 25 * wide(record[5]) {
         return false;
     }
     sizes_agree(&record[6..end], record[2], record[3], record[4])

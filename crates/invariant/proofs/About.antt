@@ -1,12 +1,12 @@
 -- Which messages are about a reserved copy, and what is reserved after each update of a machine.
 -- Assumes nothing.
-use mathlib.Core.Path.{_≡_, refl, sym, ap, _∙_}
+use mathlib.Core.Path.{_≡_, refl}
 use mathlib.Core.Logic.{_≢_}
 use mathlib.Core.Bool.{Bool, true, false, not, cond, _&&_, false≢true}
 use Prim.Native.Nat.{ℕ}
 use lib.Dec.{eqb}
-use borrow.Author.Tests.{eq-eqb, ne-eqb, eqb-true, eqb-false}
-use Rattle.lists.proofs.Cases.{byBool, and-left, and-right}
+use borrow.Author.Tests.{ne-eqb, eqb-true}
+use Rattle.lists.proofs.Cases.{and-left, and-right}
 use Rattle.table.specs.declared.Machine.{Machine}
 use Rattle.table.specs.declared.Message.{Message}
 use Rattle.table.specs.declared.Table.{Table}
@@ -29,6 +29,11 @@ plain-bool false b false d g p = refl
 pub about-plain : (m th j q : ℕ) (x : Message) → plain (x .kind) ≡ true → about m th j q x ≡ false
 unfolding about plain
 about-plain m th j q x p = plain-bool (eqb (x .kind) 2) (eqb (x .from) m) (isAnswer (x .kind)) (eqb (x .to) m) _ p
+
+-- and is no REQ
+pub plain-not : (x : Message) → plain (x .kind) ≡ true → x .kind ≡ REQ → ⊥
+unfolding plain
+plain-not x p e = let z : _≡_ {A = Bool} false true = rw e at p in false≢true z
 
 pub about-req : (b j₀ r₀ th₀ m th j q : ℕ) → about m th j q (message REQ b 0 j₀ r₀ th₀) ≡ eqb b m && copyIs j₀ r₀ th₀ j q th
 unfolding about message

@@ -2,26 +2,24 @@
 -- Assumes nothing.
 use mathlib.Core.Path.{_≡_, refl, sym, ap, _∙_}
 use mathlib.Core.Logic.{_≢_}
-use mathlib.Core.Bool.{Bool, true, false, not, cond, _&&_, true≢false}
-use mathlib.Core.List.{List, [], _∷_, _++_}
-use Prim.Native.Nat.{ℕ, _+_, _<_}
+use mathlib.Core.Bool.{true, false, _&&_}
+use mathlib.Core.List.{_∷_}
+use Prim.Native.Nat.{ℕ, _+_}
 use native.Mathlib.Omega.{arith}
 use lib.Dec.{eqb}
-use borrow.Author.Tests.{eq-eqb, ne-eqb, eqb-true, eqb-false}
+use borrow.Author.Tests.{eq-eqb, ne-eqb, eqb-true}
 use Rattle.lists.proofs.Cases.{byBool, byEq, and-left, and-right}
 use Rattle.lists.proofs.Count.{ind, count}
-use Rattle.table.specs.declared.Machine.{Machine}
 use Rattle.table.specs.declared.Message.{Message}
 use Rattle.table.specs.declared.Table.{Table}
-use Rattle.table.specs.Views.{nodeAt, toldAt, flight, withNode, enter}
+use Rattle.table.specs.Views.{nodeAt, flight, withNode}
 use Rattle.table.specs.Messages.{send}
 use Rattle.table.specs.Parts.{copyIs, reserves, release, returned, message, REQ, SCHEDULE, NOWORK}
-use Rattle.table.proofs.Views.{Sized, node-same, node-other}
+use Rattle.table.proofs.Views.{node-same, node-other}
 use Rattle.handlers.specs.Handlers.{noWork, onAuth, onDenied, onObsolete}
-use Rattle.preservation.proofs.Sizes.{sized-enter}
 use Rattle.invariant.proofs.State.{Conserved, Hand, isAnswer, about}
 use Rattle.invariant.proofs.Frame.{Frame, frame-refl, frame-node, frame-returned, node-returned, node-returned-other}
-use Rattle.invariant.proofs.About.{plain, about-plain, about-answer, copy-eqs, reserves-release, reserves-same, alive-release, kind-message}
+use Rattle.invariant.proofs.About.{plain, about-plain, plain-not, about-answer, copy-eqs, reserves-release, reserves-same, alive-release, kind-message}
 use Rattle.invariant.proofs.ConservedFrame.{conserved-sends}
 
 module _ (s : Table) (x : Message) (h : Hand s x) (nr : eqb (x .kind) REQ ≡ false) (ans : isAnswer (x .kind) ≡ true) (c : Conserved s (x ∷ flight s)) where
@@ -61,19 +59,19 @@ module _ (s : Table) (x : Message) (h : Hand s x) (nr : eqb (x .kind) REQ ≡ fa
         let b : reserves (nodeAt u m) j q th ≡ reserves (nodeAt s m) j q th = rw (other m e) in
         omega (arith, ap ind a, ap ind b, ap ind new))
 
-    sent : (k o j r : ℕ) → plain k ≡ true → (k ≡ REQ → ⊥) → Conserved (send u (message k (x .to) o j r 0)) (flight (send u (message k (x .to) o j r 0)))
-    sent k o j r p nq =
+    sent : (k o j r : ℕ) → plain k ≡ true → Conserved (send u (message k (x .to) o j r 0)) (flight (send u (message k (x .to) o j r 0)))
+    sent k o j r p =
         let y = message k (x .to) o j r 0 in
-        let e = kind-message k (x .to) o j r 0 in
-        conserved-sends u y (f .sized) (omega (arith, f .used, h .room)) (f .alive 0 ∙ h .facts .root) (λ d. absurd (nq (sym e ∙ d)))
-        (rw (f .flight) (matched y (rw e p)))
+        let q : plain (y .kind) ≡ true = rw (kind-message k (x .to) o j r 0) p in
+        conserved-sends u y (f .sized) (omega (arith, f .used, h .room)) (f .alive 0 ∙ h .facts .root) (λ e. absurd (plain-not y q e))
+        (rw (f .flight) (matched y q))
 
   module _ (match : reserves (nodeAt s (x .to)) (x .job) (x .replica) (x .thief) ≡ true) where
     abbrev freed : Table
     freed = withNode s (x .to) (release (nodeAt s (x .to)))
 
     -- the copy is released
-    discards : (k o j r : ℕ) → plain k ≡ true → (k ≡ REQ → ⊥) → Conserved (send freed (message k (x .to) o j r 0)) (flight (send freed (message k (x .to) o j r 0)))
+    discards : (k o j r : ℕ) → plain k ≡ true → Conserved (send freed (message k (x .to) o j r 0)) (flight (send freed (message k (x .to) o j r 0)))
     discards =
         let b = x .to in
         let v = release (nodeAt s b) in
@@ -82,7 +80,7 @@ module _ (s : Table) (x : Message) (h : Hand s x) (nr : eqb (x .kind) REQ ≡ fa
         (node-same s (h .sized) b v bl) (λ k e. node-other s b k v e)
 
     -- the copy returns to the pool
-    returns : (k o j r : ℕ) → plain k ≡ true → (k ≡ REQ → ⊥) → Conserved (send (returned s (x .to)) (message k (x .to) o j r 0)) (flight (send (returned s (x .to)) (message k (x .to) o j r 0)))
+    returns : (k o j r : ℕ) → plain k ≡ true → Conserved (send (returned s (x .to)) (message k (x .to) o j r 0)) (flight (send (returned s (x .to)) (message k (x .to) o j r 0)))
     returns = sent match (returned s (x .to)) (frame-returned s (x .to) (h .sized) (h .message .to)) own other
       where
         own : nodeAt (returned s (x .to)) (x .to) ≡ release (nodeAt s (x .to))
@@ -95,19 +93,19 @@ module _ (s : Table) (x : Message) (h : Hand s x) (nr : eqb (x .kind) REQ ≡ fa
   unfolding onAuth
   conserved-auth =
       byBool (reserves (nodeAt s (x .to)) (x .job) (x .replica) (x .thief))
-      (λ e. rw (e, onAuth) (discards e SCHEDULE (x .thief) (x .job) (x .replica) (unfold plain isAnswer in refl) (λ (d : _≡_ {A = ℕ} 6 2). omega arith)))
+      (λ e. rw (e, onAuth) (discards e SCHEDULE (x .thief) (x .job) (x .replica) (unfold plain isAnswer in refl)))
       (λ e. rw (e, onAuth) (unmatched e))
 
   pub conserved-denied : Conserved (onDenied s x) (flight (onDenied s x))
   unfolding onDenied noWork
   conserved-denied =
       byBool (reserves (nodeAt s (x .to)) (x .job) (x .replica) (x .thief))
-      (λ e. rw (e, onDenied) (returns e NOWORK (x .thief) 0 0 (unfold plain isAnswer in refl) (λ (d : _≡_ {A = ℕ} 8 2). omega arith)))
+      (λ e. rw (e, onDenied) (returns e NOWORK (x .thief) 0 0 (unfold plain isAnswer in refl)))
       (λ e. rw (e, onDenied) (unmatched e))
 
   pub conserved-obsolete : Conserved (onObsolete s x) (flight (onObsolete s x))
   unfolding onObsolete noWork
   conserved-obsolete =
       byBool (reserves (nodeAt s (x .to)) (x .job) (x .replica) (x .thief))
-      (λ e. rw (e, onObsolete) (discards e NOWORK (x .thief) 0 0 (unfold plain isAnswer in refl) (λ (d : _≡_ {A = ℕ} 8 2). omega arith)))
+      (λ e. rw (e, onObsolete) (discards e NOWORK (x .thief) 0 0 (unfold plain isAnswer in refl)))
       (λ e. rw (e, onObsolete) (unmatched e))

@@ -1,19 +1,18 @@
 -- Clause C through Die: it no longer speaks of the dead machine, and the dropped messages counted for that machine alone.
 -- Assumes nothing.
-use mathlib.Core.Path.{_≡_, refl, sym, ap, _∙_}
+use mathlib.Core.Path.{_≡_, sym, ap, _∙_}
 use mathlib.Core.Logic.{_≢_}
-use mathlib.Core.Bool.{Bool, true, false, not, cond, _&&_}
-use mathlib.Core.List.{List}
+use mathlib.Core.Bool.{true, _&&_}
 use Prim.Native.Nat.{ℕ, _<_}
 use native.Mathlib.Omega.{arith}
 use lib.Dec.{eqb}
-use borrow.Author.Tests.{eq-eqb, ne-eqb, eqb-true, eqb-false}
-use Rattle.lists.proofs.Cases.{byBool, byEq, and-left, and-right}
-use Rattle.lists.proofs.Count.{ind, count, count-keep, Every, every-map}
+use borrow.Author.Tests.{ne-eqb, eqb-true}
+use Rattle.lists.proofs.Cases.{byBool, and-left, and-right}
+use Rattle.lists.proofs.Count.{ind, count, count-keep, every-map}
 use Rattle.table.specs.declared.Machine.{Machine}
 use Rattle.table.specs.declared.Message.{Message}
 use Rattle.table.specs.declared.Table.{Table}
-use Rattle.table.specs.Views.{nodeAt, toldAt, flight}
+use Rattle.table.specs.Views.{nodeAt, flight}
 use Rattle.table.specs.Messages.{notTo}
 use Rattle.table.specs.Parts.{copyIs, reserves, REQ}
 use Rattle.events.specs.Events.{died}

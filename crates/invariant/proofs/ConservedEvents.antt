@@ -1,15 +1,13 @@
 -- Clause C through Admit, Steal, Start and Done: no reserved copy changes, and what is sent is about none.
 -- Assumes nothing.
-use mathlib.Core.Path.{_≡_, refl, sym, ap, _∙_}
-use mathlib.Core.List.{List}
+use mathlib.Core.Path.{_≡_, refl}
 use Prim.Native.Nat.{ℕ, _+_, _<_}
 use Rattle.pricer.specs.Price.{priceBits}
 use Rattle.table.specs.declared.Machine.{Machine}
-use Rattle.table.specs.declared.Message.{Message}
 use Rattle.table.specs.declared.Table.{Table}
 use Rattle.table.specs.Views.{bondAt, nodeAt, poolAt, flight, withJob, withNode, withPool, enter}
 use Rattle.table.specs.Parts.{opened, reserves, running, waiting, message, result, FISH}
-use Rattle.table.proofs.Views.{Sized, views, sized-pool, node-pool}
+use Rattle.table.proofs.Views.{views, node-pool}
 use Rattle.events.specs.Events.{admitted, stolen, started, finished}
 use Rattle.invariant.proofs.State.{Conserved, Whole, isAnswer}
 use Rattle.invariant.proofs.Frame.{Frame, frame-refl, frame-job, frame-pool, frame-node, frame-enter, part-kept, node-enter}

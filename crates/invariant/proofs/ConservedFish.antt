@@ -2,21 +2,21 @@
 -- Assumes nothing.
 use mathlib.Core.Path.{_≡_, refl, sym, ap, _∙_}
 use mathlib.Core.Logic.{_≢_}
-use mathlib.Core.Bool.{Bool, true, false, not, cond, _&&_}
-use mathlib.Core.List.{List, [], _∷_, _++_}
-use Prim.Native.Nat.{ℕ, _+_, _<_}
+use mathlib.Core.Bool.{true, false}
+use mathlib.Core.List.{_∷_}
+use Prim.Native.Nat.{ℕ, _+_}
 use native.Mathlib.Omega.{arith}
 use lib.Dec.{eqb, leb}
-use borrow.Author.Tests.{eq-eqb, ne-eqb, eqb-true, eqb-false, leb-false}
+use borrow.Author.Tests.{eq-eqb, ne-eqb, eqb-true, leb-false}
 use Rattle.lists.proofs.Cases.{byBool, byEq}
 use Rattle.lists.proofs.Count.{ind, count}
 use Rattle.table.specs.declared.Machine.{Machine}
 use Rattle.table.specs.declared.Message.{Message}
 use Rattle.table.specs.declared.Table.{Table}
-use Rattle.table.specs.Views.{nodeAt, poolAt, toldAt, flight, withNode, withPool}
-use Rattle.table.specs.Messages.{send, lowest}
+use Rattle.table.specs.Views.{nodeAt, poolAt, flight, withNode, withPool}
+use Rattle.table.specs.Messages.{lowest}
 use Rattle.table.specs.Parts.{copyIs, reserves, reserve, message, REQ, FISH, NOWORK}
-use Rattle.table.proofs.Views.{Sized, node-same, node-other, node-pool, sized-pool}
+use Rattle.table.proofs.Views.{node-same, node-other, node-pool, sized-pool}
 use Rattle.handlers.specs.Handlers.{noWork, grant, onFish}
 use Rattle.preservation.proofs.Facts.{lowest-in}
 use Rattle.invariant.proofs.State.{Conserved, Hand, isAnswer, about}

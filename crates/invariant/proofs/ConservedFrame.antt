@@ -1,23 +1,21 @@
 -- Clause C through sending and through updates that leave every reserved copy as it was.
 -- Assumes nothing.
 use mathlib.Core.Path.{_≡_, refl, sym, ap, _∙_}
-use mathlib.Core.Logic.{_≢_}
-use mathlib.Core.Bool.{Bool, true, false, false≢true}
+use mathlib.Core.Bool.{true}
 use mathlib.Core.List.{List, [], _∷_, _++_}
-use Prim.Native.Nat.{ℕ, _+_, _<_}
+use Prim.Native.Nat.{ℕ, _<_}
 use native.Mathlib.Omega.{arith}
 use Rattle.lists.proofs.Count.{ind, count, count-append}
-use Rattle.table.specs.declared.Machine.{Machine}
 use Rattle.table.specs.declared.Message.{Message}
 use Rattle.table.specs.declared.Table.{Table}
-use Rattle.table.specs.Views.{nodeAt, toldAt, messageAt, flight, withMessages}
+use Rattle.table.specs.Views.{nodeAt, messageAt, flight}
 use Rattle.table.specs.Messages.{pull, send}
 use Rattle.table.specs.Parts.{reserves, REQ}
 use Rattle.table.proofs.Views.{Sized, views}
 use Rattle.invariant.proofs.State.{Conserved, about}
 use Rattle.invariant.proofs.Flight.{Apart, sends, takes, count-taken}
 use Rattle.invariant.proofs.Frame.{Frame}
-use Rattle.invariant.proofs.About.{plain, about-plain, about-dead}
+use Rattle.invariant.proofs.About.{plain, about-plain, plain-not, about-dead}
 
 -- every machine of u has the copy reserved that it has in s
 abbrev pub SameReserved : Table → Table → Type 0
@@ -57,13 +55,9 @@ conserved-takes t k s h c =
 
 -- over the table s, an updated table u sends a message that is about no copy
 module _ (s u : Table) (y : Message) (f : Frame s u) (re : SameReserved s u) (room : s .«in_flight» < 128) (root : nodeAt s 0 .alive ≡ 1) (p : plain (y .kind) ≡ true) where
-  not-req : (x : Message) → plain (x .kind) ≡ true → x .kind ≡ REQ → ⊥
-  unfolding plain
-  not-req x q e = let z : _≡_ {A = Bool} false true = rw e at q in absurd (false≢true z)
-
   pub conserved-plain : Conserved s (flight s) → Conserved (send u y) (flight (send u y))
   conserved-plain c =
-      conserved-sends u y (f .sized) (omega (arith, f .used)) (f .alive 0 ∙ root) (λ e. absurd (not-req y p e))
+      conserved-sends u y (f .sized) (omega (arith, f .used)) (f .alive 0 ∙ root) (λ e. absurd (plain-not y p e))
       (conserved-add u y (flight u) p (rw (f .flight) (conserved-frame s u (flight s) (flight s) f re (λ m th j q. refl) c)))
 
 -- no message is sent

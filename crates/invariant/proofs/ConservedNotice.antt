@@ -2,22 +2,22 @@
 -- Assumes nothing.
 use mathlib.Core.Path.{_≡_, refl, sym, ap, _∙_}
 use mathlib.Core.Logic.{_≢_}
-use mathlib.Core.Bool.{Bool, true, false, not, cond, _&&_, _||_}
+use mathlib.Core.Bool.{Bool, true, false, not, _&&_}
 use mathlib.Core.List.{List}
 use Prim.Native.Nat.{ℕ, _+_, _<_}
 use native.Mathlib.Omega.{arith}
 use lib.Dec.{eqb}
-use borrow.Author.Tests.{eq-eqb, ne-eqb, eqb-true, eqb-false}
+use borrow.Author.Tests.{ne-eqb, eqb-true}
 use Rattle.lists.specs.Scan.{keep}
-use Rattle.lists.proofs.Cases.{byBool, byEq, byAnd, and-left, and-false}
+use Rattle.lists.proofs.Cases.{byBool, byEq, byAnd, and-left}
 use Rattle.lists.proofs.Count.{ind, count, count-keep, Every, every-map}
 use Rattle.table.specs.declared.Machine.{Machine}
 use Rattle.table.specs.declared.Message.{Message}
 use Rattle.table.specs.declared.Table.{Table}
 use Rattle.table.specs.Views.{nodeAt, toldAt, flight}
 use Rattle.table.specs.Messages.{notFrom}
-use Rattle.table.specs.Parts.{copyIs, reserves, release, waiting, REQ}
-use Rattle.events.specs.Notice.{quieted, reissue, noticed}
+use Rattle.table.specs.Parts.{copyIs, reserves, REQ}
+use Rattle.events.specs.Notice.{quieted, noticed}
 use Rattle.invariant.proofs.State.{Conserved, Whole, Sender, isAnswer, about}
 use Rattle.invariant.proofs.About.{reserves-release, reserves-waiting, alive-release, alive-waiting}
 use Rattle.invariant.proofs.Quieted.{reclaimedNode, unwaitedNode, quietedNode, flight-quieted, told-quieted, told-quieted-other, told-quieted-others, node-quieted, node-quieted-other}

@@ -1,24 +1,22 @@
 -- Clause C through REQ, SCHEDULE, ACK, NOWORK and RESULT: no reserved copy changes, and an answer counts as the REQ did.
 -- Assumes nothing.
 use mathlib.Core.Path.{_≡_, refl, sym, ap, _∙_}
-use mathlib.Core.Logic.{_≢_}
-use mathlib.Core.Bool.{Bool, true, false, not, cond, _&&_, _||_}
-use mathlib.Core.List.{List, [], _∷_, _++_}
-use Prim.Native.Nat.{ℕ, _+_, _<_}
+use mathlib.Core.Bool.{true, false, not, _&&_, _||_}
+use mathlib.Core.List.{_∷_}
+use Prim.Native.Nat.{ℕ}
 use native.Mathlib.Omega.{arith}
 use lib.Dec.{eqb}
 use borrow.Author.Tests.{eqb-false}
 use Rattle.lists.proofs.Cases.{byBool}
 use Rattle.lists.proofs.Count.{ind}
 use Rattle.table.specs.declared.Job.{Job}
-use Rattle.table.specs.declared.Machine.{Machine}
 use Rattle.table.specs.declared.Message.{Message}
 use Rattle.table.specs.declared.Table.{Table}
 use Rattle.table.specs.Views.{jobAt, nodeAt, toldAt, flight, withJob, withNode, enter}
 use Rattle.table.specs.Parts.{moved, placed, priced, reserves, waiting, message, REQ, AUTH, DENIED, OBSOLETE, SCHEDULE, ACK, NOWORK, RESULT}
-use Rattle.table.proofs.Views.{Sized, views}
+use Rattle.table.proofs.Views.{views}
 use Rattle.handlers.specs.Handlers.{reply, onReq, onSchedule, onAck, onNoWork, onResult}
-use Rattle.invariant.proofs.State.{Conserved, Hand, isAnswer, about}
+use Rattle.invariant.proofs.State.{Conserved, Hand, isAnswer}
 use Rattle.invariant.proofs.Frame.{Frame, frame-refl, frame-job, frame-node, frame-enter, part-kept, node-enter}
 use Rattle.invariant.proofs.About.{plain, about-reply, reserves-waiting, alive-waiting, kind-message}
 use Rattle.invariant.proofs.ConservedFrame.{SameReserved, conserved-frame, conserved-forget, conserved-sends, conserved-plain, conserved-quiet}

@@ -1,12 +1,11 @@
 -- What Die leaves as it was: the table after it, through its views.
 -- Assumes nothing.
-use mathlib.Core.Path.{_≡_, refl, sym, ap, _∙_}
+use mathlib.Core.Path.{_≡_, _∙_}
 use mathlib.Core.Logic.{_≢_}
-use mathlib.Core.List.{List}
 use Prim.Native.Nat.{ℕ, _<_}
 use Rattle.lists.specs.Scan.{keep}
 use Rattle.table.specs.declared.Table.{Table}
-use Rattle.table.specs.Views.{noMachine, jobAt, nodeAt, poolAt, toldAt, flight, withNode, withMessages}
+use Rattle.table.specs.Views.{noMachine, jobAt, nodeAt, poolAt, toldAt, flight, withNode}
 use Rattle.table.specs.Messages.{sift, notTo, wipe}
 use Rattle.table.proofs.Views.{Sized, views, node-same, node-other, node-messages}
 use Rattle.table.proofs.Messages.{flight-sift}

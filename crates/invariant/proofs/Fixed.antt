@@ -1,23 +1,24 @@
--- A part of the table that no one-part update writes, such as an entry's terms, is after every event what it was before.
+-- A part of the table that no one-part update writes, such as an entry's terms, is after every event, and along every run, what it was before.
 -- Assumes nothing.
-use mathlib.Core.Path.{_≡_, refl, sym, ap, _∙_}
+use mathlib.Core.Path.{_≡_, refl, _∙_}
 use mathlib.Core.Bool.{Bool, not, cond, _&&_, _||_}
 use mathlib.Core.List.{List}
-use Prim.Native.Nat.{ℕ, zero, suc, _+_, max}
+use Prim.Native.Nat.{ℕ, zero, suc, _+_}
 use lib.Dec.{eqb, leb}
-use Rattle.pricer.specs.declared.Bond.{Bond}
 use Rattle.lists.specs.Scan.{upTo}
 use Rattle.lists.proofs.Cases.{byBool}
 use Rattle.table.specs.declared.Job.{Job}
 use Rattle.table.specs.declared.Machine.{Machine}
 use Rattle.table.specs.declared.Message.{Message}
 use Rattle.table.specs.declared.Table.{Table}
-use Rattle.table.specs.Views.{noMachine, bondAt, jobAt, nodeAt, poolAt, toldAt, messageAt, withJob, withNode, withPool, withTold, withMessages, enter}
-use Rattle.table.specs.Messages.{push, pull, sift, send, lowest, wipe, notTo, notFrom}
-use Rattle.table.specs.Parts.{opened, moved, placed, priced, reserve, release, running, waiting, reserves, returned, message, result, REQ, AUTH, DENIED, OBSOLETE, SCHEDULE, ACK}
+use Rattle.table.specs.Views.{noMachine, bondAt, jobAt, nodeAt, toldAt, messageAt, withJob, withNode, withPool, withTold, withMessages, enter}
+use Rattle.table.specs.Messages.{push, pull, sift, send, lowest, wipe}
+use Rattle.table.specs.Parts.{reserves, returned, AUTH, DENIED, OBSOLETE}
 use Rattle.table.proofs.Views.{bond-job, bond-node, bond-pool, bond-told, bond-messages}
 use Rattle.handlers.specs.Handlers.{noWork, grant, onFish, reply, onReq, onAuth, onDenied, onObsolete, onSchedule, onAck, onNoWork, onResult, handle}
 use Rattle.events.specs.Events.{admitted, stolen, delivered, started, finished, died}
+use Rattle.dispatcher.specs.Step.{stepOf, runOf}
+use Rattle.dispatcher.proofs.ByEvent.{Kept, by-step, by-run}
 use Rattle.events.specs.Notice.{informed, unwaited, reclaimed, quieted, lost, reissueOne, reissue, noticed}
 
 -- no one-part update writes what f reads
@@ -181,3 +182,23 @@ module _ {A : Type 0} (f : Table → A) (h : Fixed f) where
   pub fixed-noticed : (t : Table) (a b : ℕ) → f (noticed t a b) ≡ f t
   unfolding noticed reissue
   fixed-noticed t a b = either (eqb a 0) _ _ (f t) (turned (quieted t a b) b 64 ∙ fixed-quieted t a b) (fixed-quieted t a b)
+
+-- ---- steps and runs
+
+module _ {A : Type 0} (f : Table → A) (h : Fixed f) where
+  fixed-kept : (a : A) → Kept (λ t. f t ≡ a)
+  fixed-kept a = record {
+    admits = λ t i e l o. fixed-admitted f h t i ∙ e;
+    steals = λ t i k e la lb v u r. fixed-stolen f h t i k ∙ e;
+    delivers = λ t k e l. fixed-delivered f h t k ∙ e;
+    starts = λ t i k e la lb v n s. fixed-started f h t i k ∙ e;
+    finishes = λ t i e l v n r. fixed-finished f h t i ∙ e;
+    dies = λ t i e l n v. fixed-died f h t i ∙ e;
+    notices = λ t i k e la lb v g u. fixed-noticed f h t i k ∙ e;
+  }
+
+  pub fixed-step : (t : Table) (e : List ℕ) → f (stepOf t e .table) ≡ f t
+  fixed-step t e = by-step (λ u. f u ≡ f t) (fixed-kept (f t)) t refl e
+
+  pub fixed-run : (t : Table) (es : List (List ℕ)) → f (runOf t es) ≡ f t
+  fixed-run t es = by-run (λ u. f u ≡ f t) (fixed-kept (f t)) t es refl

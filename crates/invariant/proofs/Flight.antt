@@ -1,17 +1,17 @@
 -- Sending a message and taking one off, for any property of a table and a list of messages: what the property must bear, so that it is kept.
 -- Assumes nothing.
-use mathlib.Core.Path.{_≡_, refl, sym, ap, _∙_}
+use mathlib.Core.Path.{_≡_}
 use mathlib.Core.Logic.{_≢_}
 use mathlib.Core.Bool.{Bool}
 use mathlib.Core.List.{List, [], _∷_, _++_}
-use Prim.Native.Nat.{ℕ, _+_, _<_}
+use Prim.Native.Nat.{ℕ, _<_}
 use native.Mathlib.Omega.{arith}
 use lib.Dec.{eqb}
-use borrow.Author.Tests.{eqb-true, eqb-false}
-use lib.ListN.{length, getD}
+use borrow.Author.Tests.{eqb-false}
+use lib.ListN.{length}
 use Rattle.lists.specs.Scan.{without}
 use Rattle.lists.proofs.Cases.{byBool}
-use Rattle.lists.proofs.Count.{ind, count, count-delete, Every, every-delete, every-at}
+use Rattle.lists.proofs.Count.{count, count-delete, Every, every-delete, every-at}
 use Rattle.table.specs.declared.Message.{Message}
 use Rattle.table.specs.declared.Table.{Table}
 use Rattle.table.specs.Views.{noMessage, nodeAt, messageAt, flight, withMessages}

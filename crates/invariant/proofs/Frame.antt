@@ -1,13 +1,11 @@
 -- Updates that change jobs, pools and single parts of machines: the messages in flight, who lives and who was told of whom stay as they were.
 -- Assumes nothing.
-use mathlib.Core.Path.{_≡_, refl, sym, ap, _∙_}
+use mathlib.Core.Path.{_≡_, refl}
 use mathlib.Core.Logic.{_≢_}
-use mathlib.Core.List.{List}
-use Prim.Native.Nat.{ℕ, _+_, _<_, max}
+use Prim.Native.Nat.{ℕ, _<_, max}
 use Rattle.lists.proofs.Cases.{byEq}
 use Rattle.table.specs.declared.Job.{Job}
 use Rattle.table.specs.declared.Machine.{Machine}
-use Rattle.table.specs.declared.Message.{Message}
 use Rattle.table.specs.declared.Table.{Table}
 use Rattle.table.specs.Views.{jobAt, nodeAt, poolAt, toldAt, flight, withJob, withNode, withPool, enter}
 use Rattle.table.specs.Parts.{release, returned}

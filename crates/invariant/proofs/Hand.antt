@@ -1,8 +1,7 @@
 -- Deliver takes a message off: what its handler may rely on.
 -- Assumes nothing.
-use mathlib.Core.Path.{_≡_}
 use mathlib.Core.List.{List}
-use Prim.Native.Nat.{ℕ, _<_, _≤_}
+use Prim.Native.Nat.{ℕ, _<_}
 use native.Mathlib.Omega.{arith}
 use Rattle.table.specs.declared.Message.{Message}
 use Rattle.table.specs.declared.Table.{Table}
@@ -14,7 +13,7 @@ use Rattle.preservation.proofs.Passed.{facts}
 use Rattle.preservation.proofs.Updates.{wide, ok-pull}
 use Rattle.preservation.proofs.Sizes.{used-pull}
 use Rattle.invariant.proofs.State.{Whole, Hand}
-use Rattle.invariant.proofs.Flight.{every-taken, pulled}
+use Rattle.invariant.proofs.Flight.{every-taken}
 
 message-apart : (x : Message) (t : Table) (n : ℕ) (k : List Message) → MessageFacts t x → MessageFacts (withMessages t n k) x
 message-apart x t n k f = record {

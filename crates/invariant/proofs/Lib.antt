@@ -36,3 +36,4 @@ pub mod TripWithout
 pub mod TripDie
 pub mod TripNotice
 pub mod TripEvents
+pub mod Keeps

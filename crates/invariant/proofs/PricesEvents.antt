@@ -1,9 +1,7 @@
 -- Clause X through Admit, Steal, Start, Done, Die and Notice: only Done sends a RESULT, with the price of the running job's terms.
 -- Assumes nothing.
-use mathlib.Core.Path.{_≡_, refl, sym, ap, _∙_}
-use mathlib.Core.Logic.{_≢_}
-use mathlib.Core.Bool.{Bool, true, false}
-use mathlib.Core.List.{List}
+use mathlib.Core.Path.{_≡_, refl}
+use mathlib.Core.Bool.{Bool, true}
 use Prim.Native.Nat.{ℕ, _+_, _<_}
 use native.Mathlib.Omega.{arith}
 use lib.Dec.{eqb}
@@ -15,16 +13,16 @@ use Rattle.table.specs.declared.Job.{Job}
 use Rattle.table.specs.declared.Machine.{Machine}
 use Rattle.table.specs.declared.Message.{Message}
 use Rattle.table.specs.declared.Table.{Table}
-use Rattle.table.specs.Views.{bondAt, jobAt, nodeAt, poolAt, flight, withJob, withNode, withPool, enter}
+use Rattle.table.specs.Views.{bondAt, jobAt, nodeAt, poolAt, flight, withJob, withNode, withPool}
 use Rattle.table.specs.Messages.{notTo, notFrom, send}
-use Rattle.table.specs.Parts.{opened, running, waiting, message, result, FISH, RESULT}
-use Rattle.table.proofs.Views.{Sized, views}
+use Rattle.table.specs.Parts.{opened, running, message, result}
+use Rattle.table.proofs.Views.{views}
 use Rattle.events.specs.Events.{admitted, stolen, started, finished, died}
-use Rattle.events.specs.Notice.{lost, quieted, reissue, noticed}
+use Rattle.events.specs.Notice.{lost, quieted, noticed}
 use Rattle.preservation.proofs.Sizes.{sized-quieted}
 use Rattle.invariant.proofs.State.{Prices, RightPrice, Whole}
 use Rattle.invariant.proofs.Frame.{Frame, frame-refl, frame-node, frame-pool, flight-enter, job-enter}
-use Rattle.invariant.proofs.About.{alive-running, alive-waiting, kind-message}
+use Rattle.invariant.proofs.About.{alive-running, alive-waiting}
 use Rattle.invariant.proofs.Died.{job-died, flight-died}
 use Rattle.invariant.proofs.Quieted.{job-quieted, flight-quieted}
 use Rattle.invariant.proofs.Reissued.{reissuedJob, job-reissue, flight-reissue}

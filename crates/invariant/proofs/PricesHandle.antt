@@ -1,13 +1,12 @@
 -- Clause X through the nine handlers, and so through Deliver: a price comes from a RESULT, and only Done sends one.
 -- Assumes nothing.
 use mathlib.Core.Path.{_≡_, refl, sym, ap, _∙_}
-use mathlib.Core.Logic.{_≢_}
-use mathlib.Core.Bool.{Bool, true, false, not, cond, _&&_, _||_}
-use mathlib.Core.List.{List, [], _∷_, _++_}
-use Prim.Native.Nat.{ℕ, _+_, _<_}
+use mathlib.Core.Bool.{false, not, _&&_, _||_}
+use mathlib.Core.List.{List, _∷_}
+use Prim.Native.Nat.{ℕ, _<_}
 use native.Mathlib.Omega.{arith}
 use lib.Dec.{eqb, leb}
-use borrow.Author.Tests.{eqb-true}
+use borrow.Author.Tests.{eqb-false}
 use Rattle.pricer.specs.Price.{priceBits}
 use Rattle.lists.proofs.Cases.{byBool, byEq}
 use Rattle.lists.proofs.Count.{Every, every-append, every-map}
@@ -23,6 +22,7 @@ use Rattle.handlers.specs.Handlers.{noWork, grant, onFish, reply, onReq, onAuth
 use Rattle.events.specs.Events.{delivered}
 use Rattle.invariant.proofs.State.{Prices, RightPrice, Hand, Whole}
 use Rattle.invariant.proofs.Hand.{hand}
+use Rattle.invariant.proofs.ByKind.{by-kind}
 use Rattle.invariant.proofs.Flight.{Apart, sends, every-taken, takes}
 use Rattle.invariant.proofs.Frame.{Frame, frame-refl, frame-job, frame-node, frame-pool, frame-enter, frame-returned, job-enter}
 use Rattle.invariant.proofs.About.{alive-reserve, alive-release, alive-waiting, kind-message}
@@ -75,11 +75,11 @@ module _ (s : Table) (x : Message) (h : Hand s x) (p : PricesBy s s (flight s)) 
   here = frame-refl s (h .sized)
 
   -- a message of another kind than RESULT, from a table without new jobs
-  sent : (u : Table) (k f o j r th : ℕ) → Frame s u → Right u → (k ≡ RESULT → ⊥) → Right (send u (message k f o j r th))
-  sent u k f o j r th g q n = by-send s u (message k f o j r th) (g .sized) (omega (arith, g .used, h .room)) (λ e. absurd (n (sym (kind-message k f o j r th) ∙ e))) q
+  sent : (u : Table) (k f o j r th : ℕ) → Frame s u → Right u → eqb k RESULT ≡ false → Right (send u (message k f o j r th))
+  sent u k f o j r th g q n = by-send s u (message k f o j r th) (g .sized) (omega (arith, g .used, h .room)) (λ e. absurd (eqb-false k RESULT n (sym (kind-message k f o j r th) ∙ e))) q
 
   -- machine b's record is new, over a table with the jobs of s
-  sent-node : (u : Table) (v : Machine) (k o j r th : ℕ) → Frame s u → ((i : ℕ) → jobAt u i ≡ jobAt s i) → v .alive ≡ nodeAt s (x .to) .alive → (k ≡ RESULT → ⊥)
+  sent-node : (u : Table) (v : Machine) (k o j r th : ℕ) → Frame s u → ((i : ℕ) → jobAt u i ≡ jobAt s i) → v .alive ≡ nodeAt s (x .to) .alive → eqb k RESULT ≡ false
       → Right (send (withNode u (x .to) v) (message k (x .to) o j r th))
   sent-node u v k o j r th f e alive n =
       let g : Frame s (withNode u (x .to) v) = frame-node s u f (x .to) v (h .message .to) alive in
@@ -87,7 +87,7 @@ module _ (s : Table) (x : Message) (h : Hand s x) (p : PricesBy s s (flight s)) 
 
   refuses : (o : ℕ) → Right (noWork s (x .to) o)
   unfolding noWork
-  refuses o = sent s NOWORK (x .to) o 0 0 0 here p (λ (e : _≡_ {A = ℕ} 8 9). omega arith)
+  refuses o = sent s NOWORK (x .to) o 0 0 0 here p refl
 
   right-fish : Right (onFish s x)
   unfolding onFish grant
@@ -99,9 +99,9 @@ module _ (s : Table) (x : Message) (h : Hand s x) (p : PricesBy s s (flight s)) 
       (λ a. byBool (leb 64 j)
       (λ b. rw (a, b, onFish) (refuses (x .from)))
       (λ b. rw (a, b, onFish) (sent-node (withPool s (x .to) j 0) (reserve n j (poolAt s (x .to) j) (x .from)) REQ 0 j (poolAt s (x .to) j) (x .from)
-      (frame-pool s s here (x .to) j 0) (λ i. simp views) (alive-reserve n j (poolAt s (x .to) j) (x .from)) (λ (e : _≡_ {A = ℕ} 2 9). omega arith))))
+      (frame-pool s s here (x .to) j 0) (λ i. simp views) (alive-reserve n j (poolAt s (x .to) j) (x .from)) refl)))
 
-  right-reply : (u : Table) (k : ℕ) → Frame s u → Right u → (k ≡ RESULT → ⊥) → Right (reply u x k)
+  right-reply : (u : Table) (k : ℕ) → Frame s u → Right u → eqb k RESULT ≡ false → Right (reply u x k)
   unfolding reply
   right-reply u k f q n = sent u k 0 (x .from) (x .job) (x .replica) (x .thief) f q n
 
@@ -113,26 +113,26 @@ module _ (s : Table) (x : Message) (h : Hand s x) (p : PricesBy s s (flight s)) 
   unfolding onReq
   right-req =
       byBool (eqb (jobAt s (x .job) .state) 2 || not (eqb (jobAt s (x .job) .replica) (x .replica)))
-      (λ a. rw (a, onReq) (right-reply s OBSOLETE here p (λ (e : _≡_ {A = ℕ} 5 9). omega arith)))
+      (λ a. rw (a, onReq) (right-reply s OBSOLETE here p refl))
       (λ a. byBool (not (eqb (toldAt s 0 (x .thief)) 0) || not (eqb (jobAt s (x .job) .moving) 0))
-      (λ b. rw (a, b, onReq) (right-reply s DENIED here p (λ (e : _≡_ {A = ℕ} 4 9). omega arith)))
-      (λ b. rw (a, b, onReq) (right-reply (withJob s (x .job) (moved (jobAt s (x .job)) (x .from) (x .thief))) AUTH (frame-job s s here (x .job) _) right-moved (λ (e : _≡_ {A = ℕ} 3 9). omega arith))))
+      (λ b. rw (a, b, onReq) (right-reply s DENIED here p refl))
+      (λ b. rw (a, b, onReq) (right-reply (withJob s (x .job) (moved (jobAt s (x .job)) (x .from) (x .thief))) AUTH (frame-job s s here (x .job) _) right-moved refl)))
 
-  released : (k j r : ℕ) → (k ≡ RESULT → ⊥) → Right (send (withNode s (x .to) (release (nodeAt s (x .to)))) (message k (x .to) (x .thief) j r 0))
+  released : (k j r : ℕ) → eqb k RESULT ≡ false → Right (send (withNode s (x .to) (release (nodeAt s (x .to)))) (message k (x .to) (x .thief) j r 0))
   released k j r n = sent-node s (release (nodeAt s (x .to))) k (x .thief) j r 0 here (λ i. refl) (alive-release (nodeAt s (x .to))) n
 
   right-auth : Right (onAuth s x)
   unfolding onAuth
   right-auth =
       byBool (reserves (nodeAt s (x .to)) (x .job) (x .replica) (x .thief))
-      (λ a. rw (a, onAuth) (released SCHEDULE (x .job) (x .replica) (λ (e : _≡_ {A = ℕ} 6 9). omega arith)))
+      (λ a. rw (a, onAuth) (released SCHEDULE (x .job) (x .replica) refl))
       (λ a. rw (a, onAuth) p)
 
   right-obsolete : Right (onObsolete s x)
   unfolding onObsolete noWork
   right-obsolete =
       byBool (reserves (nodeAt s (x .to)) (x .job) (x .replica) (x .thief))
-      (λ a. rw (a, onObsolete) (released NOWORK 0 0 (λ (e : _≡_ {A = ℕ} 8 9). omega arith)))
+      (λ a. rw (a, onObsolete) (released NOWORK 0 0 refl))
       (λ a. rw (a, onObsolete) p)
 
   right-denied : Right (onDenied s x)
@@ -140,14 +140,14 @@ module _ (s : Table) (x : Message) (h : Hand s x) (p : PricesBy s s (flight s)) 
   right-denied =
       let f : Frame s (returned s (x .to)) = frame-returned s (x .to) (h .sized) (h .message .to) in
       byBool (reserves (nodeAt s (x .to)) (x .job) (x .replica) (x .thief))
-      (λ a. rw (a, onDenied) (sent (returned s (x .to)) NOWORK (x .to) (x .thief) 0 0 0 f (by-frame s _ f (unfold returned in λ i. simp (views, job-enter)) p) (λ (e : _≡_ {A = ℕ} 8 9). omega arith)))
+      (λ a. rw (a, onDenied) (sent (returned s (x .to)) NOWORK (x .to) (x .thief) 0 0 0 f (by-frame s _ f (unfold returned in λ i. simp (views, job-enter)) p) refl))
       (λ a. rw (a, onDenied) p)
 
   right-schedule : Right (onSchedule s x)
   unfolding onSchedule
   right-schedule =
       sent-node (enter s (x .to) (x .job) (x .replica)) (waiting (nodeAt s (x .to)) 0) ACK 0 (x .job) (x .replica) 0
-      (frame-enter s s here (x .to) (x .job) (x .replica)) (λ i. job-enter s (x .to) (x .job) (x .replica) i) (alive-waiting (nodeAt s (x .to)) 0) (λ (e : _≡_ {A = ℕ} 7 9). omega arith)
+      (frame-enter s s here (x .to) (x .job) (x .replica)) (λ i. job-enter s (x .to) (x .job) (x .replica) i) (alive-waiting (nodeAt s (x .to)) 0) refl
 
   right-nowork : Right (onNoWork s x)
   unfolding onNoWork
@@ -169,18 +169,9 @@ module _ (s : Table) (x : Message) (h : Hand s x) (p : PricesBy s s (flight s)) 
       (λ a. rw (a, onResult) p)
 
   right-handle : Right (handle s x)
-  unfolding handle
   right-handle =
-      byBool (eqb (x .kind) 1) (λ a. rw (a, handle) right-fish)
-      (λ a1. byBool (eqb (x .kind) 2) (λ a. rw (a1, a, handle) right-req)
-      (λ a2. byBool (eqb (x .kind) 3) (λ a. rw (a1, a2, a, handle) right-auth)
-      (λ a3. byBool (eqb (x .kind) 4) (λ a. rw (a1, a2, a3, a, handle) right-denied)
-      (λ a4. byBool (eqb (x .kind) 5) (λ a. rw (a1, a2, a3, a4, a, handle) right-obsolete)
-      (λ a5. byBool (eqb (x .kind) 6) (λ a. rw (a1, a2, a3, a4, a5, a, handle) right-schedule)
-      (λ a6. byBool (eqb (x .kind) 7) (λ a. rw (a1, a2, a3, a4, a5, a6, a, handle) right-ack)
-      (λ a7. byBool (eqb (x .kind) 8) (λ a. rw (a1, a2, a3, a4, a5, a6, a7, a, handle) right-nowork)
-      (λ a8. byBool (eqb (x .kind) 9) (λ a. rw (a1, a2, a3, a4, a5, a6, a7, a8, a, handle) (right-result (eqb-true _ _ a)))
-      (λ a9. rw (a1, a2, a3, a4, a5, a6, a7, a8, a9, handle) p)))))))))
+      by-kind (λ u. PricesBy s u (flight u)) s x (h .message .kind-least) (h .message .kind-most)
+      (λ e. right-fish) (λ e. right-req) (λ e. right-auth) (λ e. right-denied) (λ e. right-obsolete) (λ e. right-schedule) (λ e. right-ack) (λ e. right-nowork) right-result
 
 pub prices-handle : (s : Table) (x : Message) → Hand s x → Prices s (x ∷ flight s) → Prices (handle s x) (flight (handle s x))
 prices-handle s x h p =

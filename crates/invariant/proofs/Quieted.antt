@@ -1,23 +1,22 @@
 -- What Notice does to every machine that is told (its death flag, its messages, its reserved copy, its wait), through the table's views.
 -- Assumes nothing.
-use mathlib.Core.Path.{_≡_, refl, sym, ap, _∙_}
+use mathlib.Core.Path.{_≡_, ap, _∙_}
 use mathlib.Core.Logic.{_≢_}
-use mathlib.Core.Bool.{Bool, not, cond, _&&_}
-use mathlib.Core.List.{List}
+use mathlib.Core.Bool.{not, cond, _&&_}
 use Prim.Native.Nat.{ℕ, _+_, _<_}
 use lib.Dec.{eqb}
 use Rattle.lists.specs.Scan.{keep}
 use Rattle.lists.proofs.Cases.{byBool}
 use Rattle.table.specs.declared.Machine.{Machine}
 use Rattle.table.specs.declared.Table.{Table}
-use Rattle.table.specs.Views.{jobAt, nodeAt, poolAt, toldAt, flight, withNode, withTold, withMessages, enter}
+use Rattle.table.specs.Views.{jobAt, nodeAt, toldAt, flight, withNode, withMessages, enter}
 use Rattle.table.specs.Messages.{sift, notFrom}
 use Rattle.table.specs.Parts.{release, waiting, returned}
 use Rattle.table.proofs.Views.{Sized, views, node-same, node-other, told-same, told-other, told-other-node, told-messages, flight-told}
 use Rattle.table.proofs.Messages.{flight-sift, sized-sift}
 use Rattle.events.specs.Notice.{informed, unwaited, reclaimed, quieted}
 use Rattle.preservation.proofs.Sizes.{sized-informed, sized-reclaimed}
-use Rattle.invariant.proofs.Frame.{node-returned, node-returned-other, entered}
+use Rattle.invariant.proofs.Frame.{node-returned, node-returned-other}
 
 -- machine a's record once the copy reserved for b is returned, and once a wait on b has ended
 unfoldable pub reclaimedNode : Machine → ℕ → Machine

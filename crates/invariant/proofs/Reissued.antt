@@ -2,16 +2,15 @@
 -- Assumes nothing.
 use mathlib.Core.Path.{_≡_, refl, sym, ap, _∙_}
 use mathlib.Core.Logic.{_≢_}
-use mathlib.Core.Bool.{Bool, true, false, cond}
-use mathlib.Core.List.{List}
-use Prim.Native.Nat.{ℕ, zero, suc, _+_, _≤_, _<_, max}
+use mathlib.Core.Bool.{cond}
+use Prim.Native.Nat.{ℕ, zero, suc, _+_, _≤_, _<_}
 use native.Mathlib.Nat.{not-suc-le-zero}
 use native.Mathlib.Omega.{arith}
 use Rattle.lists.specs.Scan.{upTo}
 use Rattle.lists.proofs.Cases.{byBool, byEq}
 use Rattle.table.specs.declared.Job.{Job}
 use Rattle.table.specs.declared.Table.{Table}
-use Rattle.table.specs.Views.{jobAt, nodeAt, poolAt, toldAt, flight, withJob, enter}
+use Rattle.table.specs.Views.{jobAt, nodeAt, toldAt, flight, withJob, enter}
 use Rattle.table.specs.Parts.{opened}
 use Rattle.table.proofs.Views.{Sized, views, job-same, job-other, job-pool}
 use Rattle.events.specs.Notice.{lost, reissueOne, reissue}

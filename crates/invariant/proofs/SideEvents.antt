@@ -1,36 +1,31 @@
 -- Clauses D1, F, D2, R (reserved and running copies) and P through Admit, Steal, Start, Done and Die.
 -- Assumes nothing.
-use mathlib.Core.Path.{_≡_, refl, sym, ap, _∙_}
+use mathlib.Core.Path.{_≡_, refl, sym, _∙_}
 use mathlib.Core.Logic.{_≢_}
-use mathlib.Core.Bool.{Bool, true, false, true≢false}
-use mathlib.Core.List.{List, [], _∷_}
-use Prim.Native.Nat.{ℕ, _+_, _≤_, _<_}
+use mathlib.Core.Bool.{true, false, true≢false}
+use mathlib.Core.List.{List, _∷_}
+use Prim.Native.Nat.{ℕ, _+_, _<_}
 use native.Mathlib.Omega.{arith}
 use Rattle.pricer.specs.Price.{priceBits}
 use Rattle.lists.specs.Scan.{keep}
-use Rattle.lists.proofs.Cases.{byEq}
 use Rattle.lists.proofs.Count.{Every, every-map, every-keep}
 use Rattle.table.specs.declared.Machine.{Machine}
 use Rattle.table.specs.declared.Message.{Message}
 use Rattle.table.specs.declared.Table.{Table}
-use Rattle.table.specs.Views.{noJob, noMachine, bondAt, jobAt, nodeAt, poolAt, toldAt, flight, withJob, withNode, withPool, enter}
+use Rattle.table.specs.Views.{noMachine, bondAt, jobAt, nodeAt, poolAt, flight, withJob, withNode, withPool, enter}
 use Rattle.table.specs.Messages.{notTo, send}
 use Rattle.table.specs.Parts.{opened, running, waiting, message, result, FISH}
-use Rattle.table.proofs.Views.{Sized, views, node-same, node-other, node-pool, flight-job}
+use Rattle.table.proofs.Views.{views, node-same, node-other, node-pool, flight-job}
 use Rattle.events.specs.Events.{admitted, stolen, started, finished, died}
 use Rattle.invariant.proofs.State.{Side, Sender, Copies, Placed, Whole, isAnswer}
-use Rattle.invariant.proofs.Frame.{Frame, frame-refl, frame-job, frame-node, frame-pool, node-enter, job-enter, told-enter, flight-enter}
+use Rattle.invariant.proofs.Frame.{Frame, frame-refl, frame-node, frame-pool, node-enter, job-enter, told-enter, flight-enter}
 use Rattle.invariant.proofs.About.{alive-running, alive-waiting}
 use Rattle.invariant.proofs.Died.{job-died, told-died, flight-died, node-died, node-died-other}
-use Rattle.invariant.proofs.SideFrame.{side-node, side-job, side-sends, copies-waiting, copies-running, copies-none, sender-message}
+use Rattle.invariant.proofs.SideFrame.{side-node, side-job, side-sends, copies-waiting, copies-running, copies-none, living-untold, sender-message}
 
 module _ (t : Table) (w : Whole t) where
   here : Frame t t
   here = frame-refl t (w .sized)
-
-  -- nobody was told that a living machine is dead
-  untold : (o k : ℕ) → o < 16 → k < 16 → nodeAt t k .alive ≡ 1 → toldAt t o k ≡ 0
-  untold o k ol kl alive = byEq (toldAt t o k) 0 (λ e. e) (λ e. absurd (omega (arith, w .facts .told-dead o k ol kl e)))
 
   -- machine a's record is v, over a table u that differs from t in pools and in that record
   module _ (u : Table) (a : ℕ) (v : Machine) (f : Frame t u) (jobs : (j : ℕ) → jobAt u j ≡ jobAt t j)
@@ -49,7 +44,7 @@ module _ (t : Table) (w : Whole t) where
       sent (withNode t a v) a v (frame-node t t here a v al (alive-waiting n (b + 1))) (λ j. simp views)
       (node-same t (w .sized) a v al) (λ m e. node-other t a m v e) (copies-waiting t a n (b + 1) (w .side .copies a al))
       (message FISH a b 0 0 0) room
-      (sender-message t FISH a b 0 0 0 (λ e. absurd (true≢false (sym e ∙ unfold isAnswer in refl))) (untold b a bl al alive))
+      (sender-message t FISH a b 0 0 0 (λ e. absurd (true≢false (sym e ∙ unfold isAnswer in refl))) (living-untold t (w .facts) b a bl al alive))
 
   pub side-started : (a b : ℕ) → a < 16 → b < 64 → Side (started t a b) (flight (started t a b))
   unfolding started
@@ -65,7 +60,7 @@ module _ (t : Table) (w : Whole t) where
 
   sender-result : (a j r bits : ℕ) → a < 16 → nodeAt t a .alive ≡ 1 → Sender t (result a j r bits)
   unfolding result isAnswer
-  sender-result a j r bits al alive = record { root = λ (e : false ≡ true). absurd (true≢false (sym e)); untold = untold 0 a (omega arith) al alive }
+  sender-result a j r bits al alive = record { root = λ (e : false ≡ true). absurd (true≢false (sym e)); untold = living-untold t (w .facts) 0 a (omega arith) al alive }
 
   pub side-finished : (a : ℕ) → a < 16 → nodeAt t a .alive ≡ 1 → t .«in_flight» < 128 → Side (finished t a) (flight (finished t a))
   unfolding finished
@@ -85,7 +80,7 @@ module _ (t : Table) (w : Whole t) where
 
   placed-opened : (r : ℕ) → Placed t (opened r)
   unfolding opened
-  placed-opened r = record { holder = λ e. untold 0 0 (omega arith) (omega arith) (w .facts .root); thief = λ e (f : _≡_ {A = ℕ} 0 1). absurd (omega arith) }
+  placed-opened r = record { holder = λ e. living-untold t (w .facts) 0 0 (omega arith) (omega arith) (w .facts .root); thief = λ e (f : _≡_ {A = ℕ} 0 1). absurd (omega arith) }
 
   -- the job was not admitted: its replica number was 0
   pub side-admitted : (a : ℕ) → a < 64 → jobAt t a .state ≡ 0 → Side (admitted t a) (flight (admitted t a))

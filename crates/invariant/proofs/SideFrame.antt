@@ -1,10 +1,10 @@
 -- Clauses D1, F, D2, R (reserved and running copies) and P: how they go over from one table and list to another.
 -- Assumes nothing.
-use mathlib.Core.Path.{_≡_, refl, sym, ap, _∙_}
+use mathlib.Core.Path.{_≡_, refl, _∙_}
 use mathlib.Core.Logic.{_≢_}
-use mathlib.Core.Bool.{Bool, true, false, true≢false}
+use mathlib.Core.Bool.{true}
 use mathlib.Core.List.{List, [], _∷_, _++_}
-use Prim.Native.Nat.{ℕ, _+_, _≤_, _<_}
+use Prim.Native.Nat.{ℕ, _≤_, _<_}
 use native.Mathlib.Omega.{arith}
 use Rattle.lists.proofs.Cases.{byEq}
 use Rattle.lists.proofs.Count.{Every, every-append, every-map}
@@ -12,10 +12,11 @@ use Rattle.table.specs.declared.Job.{Job}
 use Rattle.table.specs.declared.Machine.{Machine}
 use Rattle.table.specs.declared.Message.{Message}
 use Rattle.table.specs.declared.Table.{Table}
-use Rattle.table.specs.Views.{noMachine, jobAt, nodeAt, toldAt, messageAt, flight, withJob, withNode, withMessages}
+use Rattle.table.specs.Views.{noMachine, jobAt, nodeAt, toldAt, messageAt, flight, withJob, withMessages}
 use Rattle.table.specs.Messages.{pull, send}
 use Rattle.table.specs.Parts.{reserve, release, running, waiting, message}
-use Rattle.table.proofs.Views.{Sized, views, job-same, job-other, node-job, told-job, told-messages, job-messages, node-messages}
+use Rattle.table.proofs.Views.{Sized, job-same, job-other, node-job, told-job, told-messages, job-messages, node-messages}
+use Rattle.preservation.proofs.Facts.{Facts}
 use Rattle.invariant.proofs.State.{Side, Sender, Copies, Placed, isAnswer}
 use Rattle.invariant.proofs.Flight.{Apart, sends, takes, every-taken}
 
@@ -100,7 +101,13 @@ copies-reserve t m n j r th l e c = record { reserved = l; running = c .running;
 pub copies-none : (t : Table) (m : ℕ) → Copies t m noMachine
 copies-none t m = record { reserved = omega arith; running = omega arith; untold = λ e. absurd (e refl) }
 
--- ---- a new message of the kind k from f to o
+-- ---- a new message
+
+-- nobody was told that a living machine is dead
+pub living-untold : (t : Table) → Facts t → (o k : ℕ) → o < 16 → k < 16 → nodeAt t k .alive ≡ 1 → toldAt t o k ≡ 0
+living-untold t f o k ol kl alive = byEq (toldAt t o k) 0 (λ e. e) (λ e. absurd (omega (arith, f .told-dead o k ol kl e)))
+
+-- of the kind k from f to o
 
 pub sender-message : (t : Table) (k f o j r th : ℕ) → (isAnswer k ≡ true → f ≡ 0) → toldAt t o f ≡ 0 → Sender t (message k f o j r th)
 unfolding message

@@ -1,30 +1,30 @@
 -- Clauses D1, F, D2, R (reserved and running copies) and P through the nine handlers, and so through Deliver.
 -- Assumes nothing.
-use mathlib.Core.Path.{_≡_, refl, sym, ap, _∙_}
+use mathlib.Core.Path.{_≡_, refl, sym, _∙_}
 use mathlib.Core.Logic.{_≢_}
-use mathlib.Core.Bool.{Bool, true, false, not, cond, _&&_, _||_, true≢false}
-use mathlib.Core.List.{List, [], _∷_}
-use Prim.Native.Nat.{ℕ, _+_, _≤_, _<_}
+use mathlib.Core.Bool.{Bool, true, false, not, _&&_, _||_, true≢false}
+use mathlib.Core.List.{List, _∷_}
+use Prim.Native.Nat.{ℕ, _≤_, _<_}
 use native.Mathlib.Omega.{arith}
 use lib.Dec.{eqb, leb}
-use borrow.Author.Tests.{eqb-true, eqb-false, leb-false}
-use Rattle.lists.proofs.Cases.{byBool, byEq}
+use borrow.Author.Tests.{eqb-true, leb-false}
+use Rattle.lists.proofs.Cases.{byBool}
 use Rattle.lists.proofs.Count.{Every}
-use Rattle.table.specs.declared.Job.{Job}
 use Rattle.table.specs.declared.Machine.{Machine}
 use Rattle.table.specs.declared.Message.{Message}
 use Rattle.table.specs.declared.Table.{Table}
 use Rattle.table.specs.Views.{jobAt, nodeAt, poolAt, toldAt, messageAt, flight, withJob, withNode, withPool, enter}
 use Rattle.table.specs.Messages.{pull, send, lowest}
-use Rattle.table.specs.Parts.{moved, placed, priced, reserve, release, waiting, reserves, returned, message, REQ, AUTH, DENIED, OBSOLETE, SCHEDULE, ACK, NOWORK, RESULT}
-use Rattle.table.proofs.Views.{Sized, views, node-same, node-other, node-pool, flight-job}
+use Rattle.table.specs.Parts.{moved, placed, priced, reserve, release, waiting, reserves, returned, message, REQ, AUTH, DENIED, OBSOLETE, SCHEDULE, ACK, NOWORK}
+use Rattle.table.proofs.Views.{views, node-same, node-other, node-pool, flight-job}
 use Rattle.handlers.specs.Handlers.{noWork, grant, onFish, reply, onReq, onAuth, onDenied, onObsolete, onSchedule, onAck, onNoWork, onResult, handle}
 use Rattle.events.specs.Events.{delivered}
-use Rattle.invariant.proofs.State.{Side, Sender, Copies, Placed, Hand, Whole, isAnswer}
+use Rattle.invariant.proofs.State.{Side, Sender, Copies, Hand, Whole, isAnswer}
 use Rattle.invariant.proofs.Hand.{hand}
+use Rattle.invariant.proofs.ByKind.{by-kind}
 use Rattle.invariant.proofs.Frame.{Frame, frame-refl, frame-job, frame-node, frame-pool, frame-enter, frame-returned, node-returned, node-returned-other, node-enter, job-enter}
 use Rattle.invariant.proofs.About.{alive-reserve, alive-release, alive-waiting}
-use Rattle.invariant.proofs.SideFrame.{side-node, side-job, side-list, side-sends, side-takes, copies-release, copies-waiting, copies-reserve, sender-message}
+use Rattle.invariant.proofs.SideFrame.{side-node, side-job, side-list, side-sends, side-takes, copies-release, copies-waiting, copies-reserve, living-untold, sender-message}
 
 module _ (s : Table) (x : Message) (h : Hand s x) (pools : (m j : ℕ) → m < 16 → j < 64 → poolAt s m j ≤ jobAt s j .replica) (d : Side s (x ∷ flight s)) where
   abbrev Sides : Table → Type 0
@@ -33,16 +33,12 @@ module _ (s : Table) (x : Message) (h : Hand s x) (pools : (m j : ℕ) → m < 1
   here : Frame s s
   here = frame-refl s (h .sized)
 
-  -- nobody was told that a living machine is dead
-  untold : (o k : ℕ) → o < 16 → k < 16 → nodeAt s k .alive ≡ 1 → toldAt s o k ≡ 0
-  untold o k ol kl alive = byEq (toldAt s o k) 0 (λ e. e) (λ e. absurd (omega (arith, h .facts .told-dead o k ol kl e)))
-
   own-copies : Copies s (x .to) (nodeAt s (x .to))
   own-copies = d .copies (x .to) (h .message .to)
 
   -- a message of the receiver to a machine o
   from-own : (k o j r th : ℕ) → isAnswer k ≡ false → o < 16 → Sender s (message k (x .to) o j r th)
-  from-own k o j r th n l = sender-message s k (x .to) o j r th (λ e. absurd (true≢false (sym e ∙ n))) (untold o (x .to) l (h .message .to) (h .message .alive))
+  from-own k o j r th n l = sender-message s k (x .to) o j r th (λ e. absurd (true≢false (sym e ∙ n))) (living-untold s (h .facts) o (x .to) l (h .message .to) (h .message .alive))
 
   -- nothing is sent
   gone : Sides s
@@ -110,7 +106,7 @@ module _ (s : Table) (x : Message) (h : Hand s x) (pools : (m j : ℕ) → m < 1
 
   -- the root's answer
   from-root : (k : ℕ) → Sender s (message k 0 (x .from) (x .job) (x .replica) (x .thief))
-  from-root k = sender-message s k 0 (x .from) (x .job) (x .replica) (x .thief) (λ e. refl) (untold (x .from) 0 (h .message .from) (omega arith) (h .facts .root))
+  from-root k = sender-message s k 0 (x .from) (x .job) (x .replica) (x .thief) (λ e. refl) (living-untold s (h .facts) (x .from) 0 (h .message .from) (omega arith) (h .facts .root))
 
   side-reply : (k : ℕ) → Sides (reply s x k)
   unfolding reply
@@ -210,18 +206,9 @@ module _ (s : Table) (x : Message) (h : Hand s x) (pools : (m j : ℕ) → m < 1
       (λ a. rw (a, onResult) gone)
 
   pub side-handle : Sides (handle s x)
-  unfolding handle
   side-handle =
-      byBool (eqb (x .kind) 1) (λ a. rw (a, handle) side-fish)
-      (λ a1. byBool (eqb (x .kind) 2) (λ a. rw (a1, a, handle) (side-req (eqb-true _ _ a)))
-      (λ a2. byBool (eqb (x .kind) 3) (λ a. rw (a1, a2, a, handle) side-auth)
-      (λ a3. byBool (eqb (x .kind) 4) (λ a. rw (a1, a2, a3, a, handle) side-denied)
-      (λ a4. byBool (eqb (x .kind) 5) (λ a. rw (a1, a2, a3, a4, a, handle) side-obsolete)
-      (λ a5. byBool (eqb (x .kind) 6) (λ a. rw (a1, a2, a3, a4, a5, a, handle) side-schedule)
-      (λ a6. byBool (eqb (x .kind) 7) (λ a. rw (a1, a2, a3, a4, a5, a6, a, handle) (side-ack (eqb-true _ _ a)))
-      (λ a7. byBool (eqb (x .kind) 8) (λ a. rw (a1, a2, a3, a4, a5, a6, a7, a, handle) side-nowork)
-      (λ a8. byBool (eqb (x .kind) 9) (λ a. rw (a1, a2, a3, a4, a5, a6, a7, a8, a, handle) side-result)
-      (λ a9. rw (a1, a2, a3, a4, a5, a6, a7, a8, a9, handle) gone)))))))))
+      by-kind (λ t. Side t (flight t)) s x (h .message .kind-least) (h .message .kind-most)
+      (λ e. side-fish) side-req (λ e. side-auth) (λ e. side-denied) (λ e. side-obsolete) (λ e. side-schedule) side-ack (λ e. side-nowork) (λ e. side-result)
 
 pools-pulled : (t : Table) (k : ℕ) → ((m j : ℕ) → m < 16 → j < 64 → poolAt t m j ≤ jobAt t j .replica) → (m j : ℕ) → m < 16 → j < 64 → poolAt (pull t k) m j ≤ jobAt (pull t k) j .replica
 unfolding pull

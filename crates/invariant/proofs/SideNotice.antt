@@ -3,12 +3,12 @@
 -- Assumes nothing.
 use mathlib.Core.Path.{_≡_, refl, sym, ap, _∙_}
 use mathlib.Core.Logic.{_≢_}
-use mathlib.Core.Bool.{Bool, true, false, not, cond, _&&_, _||_, true≢false}
-use mathlib.Core.List.{List, [], _∷_}
+use mathlib.Core.Bool.{Bool, true, false, not, _&&_, _||_, true≢false}
+use mathlib.Core.List.{List}
 use Prim.Native.Nat.{ℕ, _+_, _≤_, _<_}
 use native.Mathlib.Omega.{arith}
 use lib.Dec.{eqb, ltb}
-use borrow.Author.Tests.{eq-eqb, ne-eqb, eqb-true, eqb-false, ltb-true, ltb-false}
+use borrow.Author.Tests.{eq-eqb, ne-eqb, eqb-false, ltb-true, ltb-false}
 use Rattle.lists.specs.Scan.{keep}
 use Rattle.lists.proofs.Cases.{byBool, byEq, byAnd}
 use Rattle.lists.proofs.Count.{Every, every-map, every-keep, every-zip}
@@ -18,13 +18,12 @@ use Rattle.table.specs.declared.Message.{Message}
 use Rattle.table.specs.declared.Table.{Table}
 use Rattle.table.specs.Views.{jobAt, nodeAt, toldAt, flight}
 use Rattle.table.specs.Messages.{notFrom}
-use Rattle.table.specs.Parts.{opened, release, waiting}
-use Rattle.table.proofs.Views.{Sized}
+use Rattle.table.specs.Parts.{opened}
 use Rattle.events.specs.Notice.{lost, quieted, reissue, noticed}
 use Rattle.preservation.proofs.Facts.{MessageFacts}
 use Rattle.preservation.proofs.Sizes.{sized-quieted}
 use Rattle.invariant.proofs.State.{Side, Sender, Copies, Placed, Whole}
-use Rattle.invariant.proofs.SideFrame.{copies-release, copies-waiting}
+use Rattle.invariant.proofs.SideFrame.{copies-release, copies-waiting, living-untold}
 use Rattle.invariant.proofs.Quieted.{reclaimedNode, unwaitedNode, quietedNode, job-quieted, flight-quieted, told-quieted-other, told-quieted-others, node-quieted, node-quieted-other}
 use Rattle.invariant.proofs.Reissued.{reissuedJob, node-reissue, told-reissue, flight-reissue, job-reissue, job-reissue-past}
 
@@ -112,12 +111,9 @@ module _ (t : Table) (a b : ℕ) (w : Whole t) (al : a < 16) (bl : b < 16) (gone
     placed-opened : (r : ℕ) → Placed u (opened r)
     unfolding opened
     placed-opened r = record {
-      holder = λ e. told-same 0 0 (omega arith) (λ p q. gone (ap (λ (i : ℕ). nodeAt t i .alive) (sym q) ∙ w .facts .root)) ∙ root-untold;
+      holder = λ e. told-same 0 0 (omega arith) (λ p q. gone (ap (λ (i : ℕ). nodeAt t i .alive) (sym q) ∙ w .facts .root)) ∙ living-untold t (w .facts) 0 0 (omega arith) (omega arith) (w .facts .root);
       thief = λ e (f : _≡_ {A = ℕ} 0 1). absurd (omega arith);
     }
-      where
-        root-untold : toldAt t 0 0 ≡ 0
-        root-untold = byEq (toldAt t 0 0) 0 (λ e. e) (λ e. absurd (omega (arith, w .facts .root, w .facts .told-dead 0 0 (omega arith) (omega arith) e)))
 
     placed-reissued : (v : Job) → v .holder < 16 → v .thief < 16 → Placed t v → Placed u (reissuedJob v b)
     unfolding reissuedJob

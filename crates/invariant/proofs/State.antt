@@ -15,7 +15,7 @@ use Rattle.table.specs.declared.Machine.{Machine}
 use Rattle.table.specs.declared.Message.{Message}
 use Rattle.table.specs.declared.Table.{Table}
 use Rattle.table.specs.Views.{bondAt, jobAt, nodeAt, poolAt, toldAt, flight}
-use Rattle.table.specs.Parts.{copyIs, reserves, REQ, AUTH, DENIED, OBSOLETE, SCHEDULE, ACK, RESULT}
+use Rattle.table.specs.Parts.{copyIs, reserves, REQ, AUTH, OBSOLETE, SCHEDULE, ACK, RESULT}
 use Rattle.table.proofs.Views.{Sized}
 use Rattle.lists.proofs.Count.{ind, count, Every}
 use Rattle.preservation.proofs.Ok.{Ok}

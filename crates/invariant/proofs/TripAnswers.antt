@@ -2,8 +2,8 @@
 -- Assumes nothing.
 use mathlib.Core.Path.{_≡_, refl, sym, ap, _∙_}
 use mathlib.Core.Bool.{Bool, true, false, not, _&&_, true≢false, false≢true}
-use mathlib.Core.List.{List, _∷_}
-use Prim.Native.Nat.{ℕ, _+_, _≤_, _<_, min}
+use mathlib.Core.List.{_∷_}
+use Prim.Native.Nat.{ℕ, _≤_, _<_}
 use native.Mathlib.Omega.{arith}
 use lib.Dec.{eqb}
 use borrow.Author.Tests.{eq-eqb, eqb-true}
@@ -11,17 +11,17 @@ use Rattle.table.specs.declared.Job.{Job}
 use Rattle.table.specs.declared.Machine.{Machine}
 use Rattle.table.specs.declared.Message.{Message}
 use Rattle.table.specs.declared.Table.{Table}
-use Rattle.table.specs.Views.{jobAt, nodeAt, poolAt, toldAt, flight, withNode}
+use Rattle.table.specs.Views.{jobAt, nodeAt, toldAt, flight, withNode}
 use Rattle.table.specs.Messages.{send}
 use Rattle.table.specs.Parts.{copyIs, reserves, release, returned, message}
 use Rattle.table.proofs.Views.{views, pool-node}
 use Rattle.handlers.specs.Handlers.{noWork, onAuth, onDenied, onObsolete}
 use Rattle.lists.proofs.Cases.{byBool, byEq, and-left, and-right}
-use Rattle.lists.proofs.Count.{ind, count}
+use Rattle.lists.proofs.Count.{ind}
 use Rattle.invariant.proofs.Frame.{Frame, frame-refl, frame-node, frame-returned, entered}
 use Rattle.invariant.proofs.About.{about-answer, copy-eqs, alive-release}
-use Rattle.invariant.proofs.State.{Trip, Known, Ends, Conserved, Hand, isAnswer, about, trip, isTrip, ackFrom, resultFrom, reservesJob, has, dead}
-use Rattle.invariant.proofs.TripLaws.{dead-is, trip-eqs, trip-kinds, ack-other, result-other, known-plain, known-job, places}
+use Rattle.invariant.proofs.State.{Trip, Known, Ends, Conserved, Hand, isAnswer, about, trip, isTrip, reservesJob, dead}
+use Rattle.invariant.proofs.TripLaws.{dead-is, trip-eqs, ack-other, result-other, known-plain, places}
 use Rattle.invariant.proofs.TripFrame.{trip-lost, trip-passed, trip-step}
 use Rattle.invariant.proofs.TripSend.{trip-sends, trip-swap}
 use Rattle.invariant.proofs.TripCopies.{has-release, has-returned, pools-returned}

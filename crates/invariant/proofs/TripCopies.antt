@@ -2,7 +2,7 @@
 -- Assumes nothing.
 use mathlib.Core.Path.{_≡_, refl, sym, ap, _∙_}
 use mathlib.Core.Logic.{_≢_}
-use mathlib.Core.Bool.{Bool, true, false, not, _&&_}
+use mathlib.Core.Bool.{true, false, not, _&&_}
 use Prim.Native.Nat.{ℕ, _+_, _≤_, _<_, max, min}
 use native.Mathlib.Omega.{arith}
 use lib.Dec.{eqb}
@@ -18,6 +18,16 @@ use Rattle.lists.proofs.Count.{ind}
 use Rattle.invariant.proofs.Frame.{node-enter}
 use Rattle.invariant.proofs.State.{reservesJob, runsJob, has, dead}
 use Rattle.invariant.proofs.TripLaws.{dead-same}
+
+-- ---- no copy is reserved, none runs
+
+pub reservesJob-none : (n : Machine) (j r : ℕ) → n .«reserved_replica» ≡ 0 → reservesJob n j r ≡ false
+unfolding reservesJob
+reservesJob-none n j r e = rw (e, reservesJob)
+
+pub runsJob-none : (n : Machine) (j r : ℕ) → n .«running_replica» ≡ 0 → runsJob n j r ≡ false
+unfolding runsJob
+runsJob-none n j r e = rw (e, runsJob)
 
 -- ---- a machine's record is replaced by one that is as alive
 

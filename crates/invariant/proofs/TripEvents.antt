@@ -1,8 +1,7 @@
 -- Clauses R, O, N, H and S through Admit, Steal, Start and Done.
 -- Assumes nothing.
-use mathlib.Core.Path.{_≡_, refl, sym, ap, _∙_}
-use mathlib.Core.Bool.{Bool, true, false, not, _&&_, false≢true}
-use mathlib.Core.List.{_∷_}
+use mathlib.Core.Path.{_≡_, refl, ap}
+use mathlib.Core.Bool.{true, false, not, _&&_, false≢true}
 use Prim.Native.Nat.{ℕ, _+_, _≤_, _<_, min}
 use native.Mathlib.Omega.{arith}
 use lib.Dec.{eqb}
@@ -13,7 +12,7 @@ use Rattle.table.specs.declared.Job.{Job}
 use Rattle.table.specs.declared.Machine.{Machine}
 use Rattle.table.specs.declared.Message.{Message}
 use Rattle.table.specs.declared.Table.{Table}
-use Rattle.table.specs.Views.{noJob, noMessage, bondAt, jobAt, nodeAt, poolAt, flight, withNode, withPool}
+use Rattle.table.specs.Views.{noMessage, bondAt, jobAt, nodeAt, poolAt, flight, withNode, withPool}
 use Rattle.table.specs.Messages.{send}
 use Rattle.table.specs.Parts.{running, waiting, message, result}
 use Rattle.table.proofs.Views.{views, pool-node, flight-node, flight-pool}
@@ -22,11 +21,11 @@ use Rattle.lists.proofs.Cases.{byBool, byEq, and-left, and-right}
 use Rattle.lists.proofs.Count.{ind}
 use Rattle.invariant.proofs.Frame.{Frame, frame-refl, frame-node, frame-pool, entered}
 use Rattle.invariant.proofs.About.{alive-waiting, alive-running}
-use Rattle.invariant.proofs.State.{Trip, Known, Whole, isTrip, resultFrom, reservesJob, runsJob, has}
+use Rattle.invariant.proofs.State.{Known, Whole, isTrip, resultFrom, reservesJob, runsJob, has}
 use Rattle.invariant.proofs.TripLaws.{known-plain, places}
 use Rattle.invariant.proofs.TripFrame.{trip-nothing}
 use Rattle.invariant.proofs.TripSend.{trip-sends, trip-swap, trip-table}
-use Rattle.invariant.proofs.TripCopies.{has-node, has-node-other, has-waiting, has-taken, runs-taken, pools-emptied}
+use Rattle.invariant.proofs.TripCopies.{has-node, has-node-other, has-waiting, has-taken, runs-taken, runsJob-none, pools-emptied}
 use Rattle.invariant.proofs.TripJob.{trip-issued}
 use Rattle.invariant.proofs.TripAnswers.{Trips}
 
@@ -86,10 +85,6 @@ trip-finished t a w al room =
     omega (arith, has-node t a (running n 0 0) j r (w .sized) al (alive-running n 0 0), ap ind res, runs-result n a (priceBits (bondAt t (n .«running_job»))) j r))
 
 -- ---- Start: from the pool to running
-runs-none : (n : Machine) (j r : ℕ) → n .«running_replica» ≡ 0 → runsJob n j r ≡ false
-unfolding runsJob
-runs-none n j r e = rw (e, runsJob)
-
 pub trip-started : (t : Table) (a b : ℕ) → Whole t → a < 16 → b < 64 → nodeAt t a .«running_replica» ≡ 0 → Trips (started t a b)
 unfolding started
 trip-started t a b w al bl free =
@@ -104,5 +99,5 @@ trip-started t a b w al bl free =
     (λ j p jl pl o.
     let r = jobAt t j .replica in
     let r1 : 1 ≤ r = w .facts .job j jl .some (λ e. omega arith) in
-    omega (arith, has-taken t a b v j r p (w .sized) al bl jl r1 (alive-running n b r₀) (runs-taken n b r₀ j r r1 (runs-none n j r free))))
+    omega (arith, has-taken t a b v j r p (w .sized) al bl jl r1 (alive-running n b r₀) (runs-taken n b r₀ j r r1 (runsJob-none n j r free))))
     (w .trip))

@@ -3,9 +3,9 @@
 -- Assumes nothing.
 use mathlib.Core.Path.{_≡_, refl, sym, ap, _∙_}
 use mathlib.Core.Logic.{_≢_}
-use mathlib.Core.Bool.{Bool, true, false, _&&_, true≢false}
-use mathlib.Core.List.{List, _∷_}
-use Prim.Native.Nat.{ℕ, _+_, _≤_, _<_, max}
+use mathlib.Core.Bool.{true, false, _&&_, true≢false}
+use mathlib.Core.List.{List}
+use Prim.Native.Nat.{ℕ, _+_, _≤_, _<_}
 use native.Mathlib.Omega.{arith}
 use lib.Dec.{eqb}
 use borrow.Author.Tests.{eq-eqb}
@@ -13,11 +13,11 @@ use Rattle.table.specs.declared.Job.{Job}
 use Rattle.table.specs.declared.Machine.{Machine}
 use Rattle.table.specs.declared.Message.{Message}
 use Rattle.table.specs.declared.Table.{Table}
-use Rattle.table.specs.Views.{jobAt, nodeAt, poolAt, withJob, withPool, enter}
+use Rattle.table.specs.Views.{jobAt, nodeAt, poolAt, withJob, enter}
 use Rattle.table.specs.Parts.{opened}
 use Rattle.table.proofs.Views.{Sized, views, sized-job, job-same, job-other, job-pool, pool-job, pool-other-job, pool-other-node}
 use Rattle.lists.proofs.Cases.{byBool, byEq}
-use Rattle.lists.proofs.Count.{ind, count, count-zero, count-none, Every, every-map, every-zip}
+use Rattle.lists.proofs.Count.{count, count-zero, count-none, Every, every-map, every-zip}
 use Rattle.invariant.proofs.State.{Trip, Known, Ends, trip, isTrip, ackFrom, resultFrom, dead, has, held}
 use Rattle.invariant.proofs.TripLaws.{dead-same, trip-eqs, acks-trips, has-same, known-job}
 use Rattle.invariant.proofs.TripCopies.{has-by-pool, enter-pool}

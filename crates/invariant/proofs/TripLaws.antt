@@ -1,9 +1,9 @@
 -- What clauses R, O, N, H and S of the invariant speak of: which messages count for a job's move, and what goes by the views of a table alone.
 -- Assumes nothing.
 use mathlib.Core.Path.{_≡_, refl, sym, ap, _∙_}
-use mathlib.Core.Bool.{Bool, true, false, not, _&&_, _||_, true≢false}
+use mathlib.Core.Bool.{Bool, true, false, _&&_, true≢false}
 use mathlib.Core.List.{List}
-use Prim.Native.Nat.{ℕ, _+_, _≤_, _<_}
+use Prim.Native.Nat.{ℕ, _≤_, _<_}
 use native.Mathlib.Omega.{arith}
 use lib.Dec.{eqb}
 use borrow.Author.Tests.{eq-eqb, ne-eqb, eqb-true, eqb-false}
@@ -20,6 +20,10 @@ use Rattle.invariant.proofs.State.{Known, trip, isTrip, ackFrom, result
 pub dead-is : (t : Table) (p : ℕ) → (nodeAt t p .alive ≡ 1 → ⊥) → dead t p ≡ 1
 unfolding dead
 dead-is t p h = rw (ne-eqb (nodeAt t p .alive) 1 h)
+
+pub dead-not : (t : Table) (p : ℕ) → nodeAt t p .alive ≡ 1 → dead t p ≡ 0
+unfolding dead
+dead-not t p h = rw (eq-eqb (nodeAt t p .alive) 1 h)
 
 pub dead-same : (t u : Table) (p : ℕ) → nodeAt u p .alive ≡ nodeAt t p .alive → dead u p ≡ dead t p
 unfolding dead

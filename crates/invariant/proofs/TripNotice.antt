@@ -1,9 +1,9 @@
 -- Clauses R, O, N, H and S through Notice: what a dead machine sent is dropped, the copy reserved for it returns, a wait on it ends, and the root issues
 -- the lost jobs again.
 -- Assumes nothing.
-use mathlib.Core.Path.{_≡_, refl, sym, ap, _∙_}
+use mathlib.Core.Path.{_≡_, refl, ap, _∙_}
 use mathlib.Core.Logic.{_≢_}
-use mathlib.Core.Bool.{Bool, true, not, _&&_}
+use mathlib.Core.Bool.{true, not, _&&_}
 use mathlib.Core.List.{List}
 use Prim.Native.Nat.{ℕ, zero, suc, _+_, _≤_, _<_}
 use native.Mathlib.Omega.{arith}
@@ -12,7 +12,7 @@ use borrow.Author.Tests.{ne-eqb}
 use Rattle.table.specs.declared.Job.{Job}
 use Rattle.table.specs.declared.Message.{Message}
 use Rattle.table.specs.declared.Table.{Table}
-use Rattle.table.specs.Views.{jobAt, nodeAt, flight, withJob, withNode, enter}
+use Rattle.table.specs.Views.{jobAt, nodeAt, flight, withJob, withNode}
 use Rattle.table.specs.Messages.{sift, notFrom}
 use Rattle.table.specs.Parts.{opened, waiting, returned}
 use Rattle.table.proofs.Views.{Sized, views, sized-job, job-other, pool-node}

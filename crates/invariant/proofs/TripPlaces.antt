@@ -3,23 +3,23 @@
 use mathlib.Core.Path.{_≡_, refl, sym, ap, _∙_}
 use mathlib.Core.Logic.{_≢_}
 use mathlib.Core.Bool.{Bool, true, false, not, _&&_, _||_, true≢false, false≢true}
-use mathlib.Core.List.{List, _∷_}
-use Prim.Native.Nat.{ℕ, _+_, _≤_, _<_}
+use mathlib.Core.List.{_∷_}
+use Prim.Native.Nat.{ℕ, _≤_}
 use native.Mathlib.Omega.{arith}
 use lib.Dec.{eqb}
 use borrow.Author.Tests.{eq-eqb, eqb-true, eqb-false, not-true, not-false}
 use Rattle.table.specs.declared.Job.{Job}
 use Rattle.table.specs.declared.Message.{Message}
 use Rattle.table.specs.declared.Table.{Table}
-use Rattle.table.specs.Views.{jobAt, nodeAt, poolAt, toldAt, flight, withJob}
+use Rattle.table.specs.Views.{jobAt, toldAt, flight, withJob}
 use Rattle.table.specs.Parts.{moved, placed, priced, message}
 use Rattle.table.proofs.Views.{job-same, job-other, node-job, pool-job, flight-job}
 use Rattle.handlers.specs.Handlers.{reply, onReq, onAck, onResult}
 use Rattle.lists.proofs.Cases.{byBool, byEq, byAnd}
 use Rattle.lists.proofs.Count.{ind, count, Every}
 use Rattle.invariant.proofs.Frame.{frame-refl, frame-job}
-use Rattle.invariant.proofs.State.{Trip, Known, Hand, trip, isTrip, ackFrom, resultFrom, dead, has, held}
-use Rattle.invariant.proofs.TripLaws.{dead-same, trip-eqs, trip-other, trip-not, ack-other, ack-not, acks-trips, result-other, result-not, has-same, known-plain, places}
+use Rattle.invariant.proofs.State.{Trip, Known, Hand, trip, isTrip, ackFrom, has, held}
+use Rattle.invariant.proofs.TripLaws.{trip-eqs, trip-other, trip-not, ack-other, ack-not, acks-trips, result-other, result-not, has-same, known-plain, places}
 use Rattle.invariant.proofs.TripFrame.{trip-lost}
 use Rattle.invariant.proofs.TripSend.{trip-sends, trip-swap}
 use Rattle.invariant.proofs.TripJob.{trip-job, known-still, known-shut, known-others}

@@ -1,13 +1,12 @@
 -- Clauses R, O, N, H and S through FISH, SCHEDULE and NOWORK: a copy leaves a pool, or enters one.
 -- Assumes nothing.
 use mathlib.Core.Path.{_≡_, refl, sym, ap, _∙_}
-use mathlib.Core.Bool.{Bool, true, false, not, _&&_, false≢true, true≢false}
-use mathlib.Core.List.{List, _∷_}
-use Prim.Native.Nat.{ℕ, _+_, _≤_, _<_}
+use mathlib.Core.Bool.{true, false, not, _&&_, false≢true}
+use mathlib.Core.List.{_∷_}
+use Prim.Native.Nat.{ℕ, _≤_, _<_}
 use native.Mathlib.Omega.{arith}
 use lib.Dec.{eqb, leb}
 use borrow.Author.Tests.{eqb-true, leb-false, not-false}
-use Rattle.table.specs.declared.Machine.{Machine}
 use Rattle.table.specs.declared.Message.{Message}
 use Rattle.table.specs.declared.Table.{Table}
 use Rattle.table.specs.Views.{jobAt, nodeAt, poolAt, flight, withNode, withPool, enter}
@@ -20,16 +19,12 @@ use Rattle.lists.proofs.Cases.{byBool, and-left, and-right}
 use Rattle.lists.proofs.Count.{ind}
 use Rattle.invariant.proofs.Frame.{Frame, frame-refl, frame-node, frame-pool, frame-enter, node-enter, entered}
 use Rattle.invariant.proofs.About.{alive-reserve, alive-waiting}
-use Rattle.invariant.proofs.State.{Trip, Known, Hand, trip, isTrip, ackFrom, reservesJob, has}
+use Rattle.invariant.proofs.State.{Trip, Known, Hand, trip, isTrip, ackFrom}
 use Rattle.invariant.proofs.TripLaws.{result-other, known-plain, places}
 use Rattle.invariant.proofs.TripFrame.{trip-passed, trip-step}
 use Rattle.invariant.proofs.TripSend.{trip-sends, trip-swap, trip-table}
-use Rattle.invariant.proofs.TripCopies.{has-waiting, has-by-pool, has-enter, pools-enter, pools-emptied, enter-pool, has-taken, reserves-taken}
+use Rattle.invariant.proofs.TripCopies.{has-waiting, has-by-pool, has-enter, pools-enter, pools-emptied, enter-pool, has-taken, reserves-taken, reservesJob-none}
 use Rattle.invariant.proofs.TripAnswers.{Trips}
-
-reserves-none : (n : Machine) (j r : ℕ) → n .«reserved_replica» ≡ 0 → reservesJob n j r ≡ false
-unfolding reservesJob
-reserves-none n j r e = rw (e, reservesJob)
 
 -- an ACK says what the SCHEDULE before it said
 known-ack : (s : Table) (x : Message) → x .kind ≡ 6 → Known s x → Known s (message 7 (x .to) 0 (x .job) (x .replica) 0)
@@ -68,7 +63,7 @@ module _ (s : Table) (x : Message) (h : Hand s x) (g : Trip s (x ∷ flight s)) 
       (λ j p a c o.
       let r = jobAt s j .replica in
       let r1 : 1 ≤ r = h .facts .job j a .some (λ e. omega arith) in
-      omega (arith, has-taken s b i v j r p (h .sized) (w .to) il a r1 va (reserves-taken n i r₀ (x .from) j r r1 (reserves-none n j r free))))
+      omega (arith, has-taken s b i v j r p (h .sized) (w .to) il a r1 va (reserves-taken n i r₀ (x .from) j r r1 (reservesJob-none n j r free))))
       g in
       trip-sends s u y f (h .room) (h .facts .root) (unfold message in λ e. refl) t
 

@@ -2,8 +2,8 @@
 -- has lost the current copy of a job.
 -- Assumes nothing.
 use mathlib.Core.Path.{_≡_, refl, sym, ap, _∙_}
-use mathlib.Core.Bool.{Bool, true, false, true≢false}
-use mathlib.Core.List.{List, [], _∷_, _++_}
+use mathlib.Core.Bool.{true, false, true≢false}
+use mathlib.Core.List.{List, _∷_}
 use Prim.Native.Nat.{ℕ, _+_, _≤_, _<_, min}
 use native.Mathlib.Omega.{arith}
 use lib.Dec.{eqb}
@@ -14,7 +14,7 @@ use Rattle.table.specs.Messages.{pull, send}
 use Rattle.table.proofs.Views.{Sized, views}
 use Rattle.elements.specs.Elements.{toRoot}
 use Rattle.lists.specs.Scan.{without}
-use Rattle.lists.proofs.Count.{ind, count}
+use Rattle.lists.proofs.Count.{ind}
 use Rattle.invariant.proofs.Flight.{sends, takes, count-taken, every-taken}
 use Rattle.invariant.proofs.Frame.{Frame}
 use Rattle.invariant.proofs.State.{Trip, Known, trip, isTrip, ackFrom, resultFrom, dead, has, held}

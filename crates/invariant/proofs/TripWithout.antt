@@ -1,10 +1,10 @@
 -- Clauses R, O, N, H and S without a dead machine: its copies are gone, or messages from it or to it, and the other machines and their messages are as before.
 -- Assumes nothing.
-use mathlib.Core.Path.{_≡_, refl, sym, ap, _∙_}
+use mathlib.Core.Path.{_≡_, sym, ap, _∙_}
 use mathlib.Core.Logic.{_≢_}
-use mathlib.Core.Bool.{Bool, true, not, _&&_}
+use mathlib.Core.Bool.{Bool, true, _&&_}
 use mathlib.Core.List.{List}
-use Prim.Native.Nat.{ℕ, _+_, _≤_, _<_}
+use Prim.Native.Nat.{ℕ, _≤_, _<_}
 use native.Mathlib.Omega.{arith}
 use lib.Dec.{eqb}
 use borrow.Author.Tests.{eqb-true}
@@ -16,7 +16,7 @@ use Rattle.table.specs.Views.{jobAt, nodeAt, poolAt, flight}
 use Rattle.preservation.proofs.Facts.{MessageFacts}
 use Rattle.lists.specs.Scan.{keep}
 use Rattle.lists.proofs.Cases.{byEq, and-left, and-right}
-use Rattle.lists.proofs.Count.{count, count-keep, count-keep-le, Every, every-map, every-keep, every-zip}
+use Rattle.lists.proofs.Count.{count, count-keep, count-keep-le, every-map, every-keep, every-zip}
 use Rattle.invariant.proofs.State.{Trip, Known, Ends, Sender, Whole, isAnswer, trip, ackFrom, resultFrom, dead, has, held}
 use Rattle.invariant.proofs.TripLaws.{dead-same, dead-one, trip-eqs, trip-kinds, has-same}
 use Rattle.invariant.proofs.TripFrame.{trip-frame}

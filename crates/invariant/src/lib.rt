@@ -1,1 +1,7 @@
-// The protocol's invariant: clauses over the table and its messages that every accepted event keeps. Theorems only, no function.
+// The protocol's invariant: clauses over the table and its messages that hold of a fresh table and that every event keeps. Theorems only, no function.
+//
+// proofs/State.antt         the clauses, and the record Whole of all of them
+// proofs/Fresh.antt         a fresh table satisfies them
+// proofs/Keeps.antt         every accepted event keeps them, so every step and every run does
+// Conserved*, Trip*, Side*, Prices*   one group of clauses each, through one group of events each
+// Flight, Frame, Hand, ByKind, Died, Quieted, Reissued, Fixed   what sending, the handlers and the events do to the table, through its views

@@ -3,3 +3,4 @@ pub mod Cases
 pub mod Scans
 pub mod Keeps
 pub mod Count
+pub mod Chains

@@ -1,18 +1,17 @@
 -- Check 9 through Admit, Steal, Deliver, Start and Done: what each accepted event returns passes again. Numbers are in their ranges, as refusal 11 has tested.
 -- Assumes nothing.
-use Prim.Native.Nat.{ℕ, _+_, _-_, _≤_, _<_, max}
+use Prim.Native.Nat.{ℕ, _+_, _<_}
 use mathlib.Core.Path.{_≡_, refl}
 use mathlib.Core.Logic.{_≢_}
-use mathlib.Core.Bool.{true, _&&_}
+use mathlib.Core.Bool.{true}
 use native.Mathlib.Omega.{arith}
 use borrow.Author.Tests.{eqb-true, lt-ltb}
-use lib.Dec.{eqb, leb, ltb}
 use lib.ListN.{getD}
 use Rattle.lists.proofs.Cases.{and-left, and-right}
 use Rattle.lists.proofs.Count.{every-at}
 use Rattle.pricer.specs.Price.{priceBits}
 use Rattle.table.specs.declared.Table.{Table}
-use Rattle.table.specs.Views.{noMessage, bondAt, jobAt, nodeAt, poolAt, messageAt, flight, withJob, withNode, withPool, enter}
+use Rattle.table.specs.Views.{noMessage, bondAt, nodeAt, poolAt, messageAt, flight, withJob, withNode, withPool, enter}
 use Rattle.table.specs.Messages.{pull}
 use Rattle.table.specs.Parts.{opened, running, waiting, lives, message, result}
 use Rattle.table.proofs.Views.{Sized, views, sized-job, sized-node, sized-pool, length-flight}

@@ -1,6 +1,6 @@
 -- What the test of an element says, and how a new element meets it; and, at the end, what check 9 says of a whole table in plain numbers (record `Facts`). M is the machine count, E the entry count, B the largest replica number allowed.
 -- Assumes nothing.
-use Prim.Native.Nat.{ℕ, _-_, _≤_, _<_, max}
+use Prim.Native.Nat.{ℕ, _≤_, _<_, max}
 use mathlib.Core.Path.{_≡_, refl, sym, ap, _∙_}
 use mathlib.Core.Logic.{_≢_}
 use mathlib.Core.Bool.{true, false, not, _&&_, _||_, false≢true}
@@ -18,6 +18,7 @@ use Rattle.table.specs.Messages.{lowest}
 use Rattle.table.specs.Parts.{opened, moved, placed, priced, reserve, release, running, waiting}
 use Rattle.elements.specs.Elements.{copyOk, emptyJob, admittedOk, placeOk, jobOk, emptyNode, reservedOk, runningOk, nodeOk, toldOk, cellOk, kindOk, endsOk, carriesOk, thiefOk, withCopy, withThief, toRoot, messageOk}
 use Rattle.validity.specs.Validity.{bound}
+use Rattle.preservation.proofs.Empty.{empty-job}
 
 -- ---- a copy
 
@@ -90,16 +91,8 @@ module _ (M E B j : ℕ) (v : Job) where
   -- one with a replica number is admitted
   pub some-job : 1 ≤ v .replica → emptyJob v ≡ false
   some-job h =
-      let a = eqb (v .state) 0 in
-      let b = eqb (v .replica) 0 in
-      let c = eqb (v .moving) 0 in
-      let d = eqb (v .holder) 0 in
-      let f = eqb (v .thief) 0 in
-      let g = eqb (v .price) 0 in
       byBool (emptyJob v)
-      (λ e.
-      let z : v .replica ≡ 0 = eqb-true _ _ (and-right a b (and-left (a && b) c (and-left (a && b && c) d (and-left (a && b && c && d) f (and-left (a && b && c && d && f) g e))))) in
-      absurd (omega arith))
+      (λ e. let z : v .replica ≡ 0 = ap (λ (w : Job). w .replica) (empty-job v e) in absurd (omega arith))
       (λ e. e)
 
   -- so is one that is open or priced
@@ -108,7 +101,7 @@ module _ (M E B j : ℕ) (v : Job) where
 
   -- one that is not admitted has no replica number
   pub none-job : emptyJob v ≡ true → v .replica ≡ 0
-  none-job e = byEq (v .replica) 0 (λ d. d) (λ d. absurd (false≢true (sym (some-job (omega arith)) ∙ e)))
+  none-job e = ap (λ (w : Job). w .replica) (empty-job v e)
 
   module _ (g : jobOk M E B j v ≡ true) (n : emptyJob v ≡ false) where
     whole : admittedOk v && copyOk E B j (v .replica) && placeOk M v ≡ true

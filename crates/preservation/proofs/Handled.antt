@@ -1,13 +1,13 @@
 -- Check 9 through the nine handlers: the laws of proofs/Updates.antt in the order of each definition.
 -- Assumes nothing.
-use Prim.Native.Nat.{ℕ, _-_, _≤_, _<_, max}
+use Prim.Native.Nat.{ℕ, _≤_, _<_, max}
 use mathlib.Core.Path.{_≡_, refl, sym}
 use mathlib.Core.Logic.{_≢_}
 use mathlib.Core.Bool.{Bool, true, false, not, _&&_, _||_, false≢true}
 use native.Mathlib.Omega.{arith}
 use borrow.Author.Tests.{eqb-true, eqb-false, leb-false, lt-ltb, not-true, not-false}
 use lib.Dec.{eqb, leb, ltb}
-use Rattle.lists.proofs.Cases.{byBool, and-left, and-right}
+use Rattle.lists.proofs.Cases.{byBool, and-left}
 use Rattle.table.specs.declared.Table.{Table}
 use Rattle.table.specs.declared.Machine.{Machine}
 use Rattle.table.specs.declared.Message.{Message}
@@ -15,7 +15,7 @@ use Rattle.table.specs.Views.{jobAt, nodeAt, poolAt, toldAt, withJob, withNode,
 use Rattle.table.specs.Messages.{lowest}
 use Rattle.table.specs.Parts.{moved, placed, priced, reserve, release, waiting, copyIs, reserves, returned, message}
 use Rattle.table.proofs.Views.{Sized, views, sized-job, sized-node, sized-pool}
-use Rattle.elements.specs.Elements.{copyOk, messageOk, withCopy, withThief}
+use Rattle.elements.specs.Elements.{copyOk, messageOk, withCopy}
 use Rattle.validity.specs.Validity.{bound}
 use Rattle.handlers.specs.Handlers.{noWork, grant, onFish, reply, onReq, onAuth, onDenied, onObsolete, onSchedule, onAck, onNoWork, onResult, handle}
 use Rattle.preservation.proofs.Ok.{Ok, machines-some, machines-most, entries-most}

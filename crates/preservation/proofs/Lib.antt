@@ -1,3 +1,4 @@
+pub mod Empty
 pub mod Ok
 pub mod Facts
 pub mod Updates

@@ -3,17 +3,18 @@
 use Prim.Native.Nat.{ℕ, _+_, _-_, _≤_, _<_}
 use mathlib.Core.Path.{_≡_, sym, ap, _∙_}
 use mathlib.Core.Bool.{Bool, true, _&&_}
-use mathlib.Core.List.{List, _++_}
+use mathlib.Core.List.{List, [], _∷_, _++_}
 use native.Mathlib.Omega.{arith}
-use borrow.Author.Tests.{eqb-true, leb-true, leb-false, le-leb, lt-leb}
+use borrow.Author.Tests.{leb-true, leb-false, le-leb, lt-leb}
 use lib.Dec.{eqb, leb}
 use lib.ListN.{length, getD, take, drop, replicate, length-drop, take-append-drop}
 use lib.Seq.{getD-drop, getD-append-add, length-take-le}
 use Rattle.lists.specs.Scan.{padTo}
 use Rattle.lists.proofs.Scans.{all-at}
 use Rattle.lists.proofs.Keeps.{all-intro}
-use Rattle.lists.proofs.Cases.{byBool, and-left, and-right}
+use Rattle.lists.proofs.Cases.{byBool}
 use Rattle.lists.proofs.Count.{Every, every-at, every-index, same-all, getD-same}
+use Rattle.lists.proofs.Chains.{chain-apart, chain-joined}
 use Rattle.table.specs.declared.Table.{Table}
 use Rattle.table.specs.declared.Message.{Message}
 use Rattle.table.specs.Views.{noMessage, bondAt, jobAt, nodeAt, poolAt, toldAt, messageAt, flight}
@@ -21,6 +22,7 @@ use Rattle.table.proofs.Views.{Sized, length-flight}
 use Rattle.table.proofs.Messages.{Padded, message-flight}
 use Rattle.elements.specs.Elements.{bondOk, jobOk, nodeOk, toldOk, cellOk, messageOk, emptyMessage, slotOk}
 use Rattle.validity.specs.Validity.{sizesOk, rootOk, bound, bondsOk, jobsOk, nodesOk, toldRow, toldsOk, poolRow, poolsOk, messagesOk, tableOk}
+use Rattle.preservation.proofs.Empty.{empty-message}
 
 -- a message in flight: its receiver is alive, and its parts are in their ranges
 abbrev pub inFlightOk : Table → Message → Bool
@@ -36,38 +38,6 @@ pub record Ok (t : Table) : Type 0 where
   pub padded : Padded t
   pub root : rootOk t ≡ true
   pub told : (m d : ℕ) → m < 16 → d < 16 → toldOk (t .machines) (nodeAt t d .alive) m d (toldAt t m d) ≡ true
-
--- ---- a message whose parts are all 0 is the empty one
-
-unfoldable made : ℕ → ℕ → ℕ → ℕ → ℕ → ℕ → ℕ → Message
-made a b c d f g h = record { kind = a; from = b; to = c; job = d; replica = f; thief = g; price = h }
-
-empty-made : (m : Message) → emptyMessage m ≡ true → made (m .kind) (m .from) (m .to) (m .job) (m .replica) (m .thief) (m .price) ≡ made 0 0 0 0 0 0 0
-empty-made m e =
-    let a = eqb (m .kind) 0 in
-    let b = eqb (m .from) 0 in
-    let c = eqb (m .to) 0 in
-    let d = eqb (m .job) 0 in
-    let f = eqb (m .replica) 0 in
-    let g = eqb (m .thief) 0 in
-    let h = eqb (m .price) 0 in
-    let e6 = and-left (a && b && c && d && f && g) h e in
-    let e5 = and-left (a && b && c && d && f) g e6 in
-    let e4 = and-left (a && b && c && d) f e5 in
-    let e3 = and-left (a && b && c) d e4 in
-    let e2 = and-left (a && b) c e3 in
-    let k1 : m .kind ≡ 0 = eqb-true _ _ (and-left a b e2) in
-    let k2 : m .from ≡ 0 = eqb-true _ _ (and-right a b e2) in
-    let k3 : m .to ≡ 0 = eqb-true _ _ (and-right (a && b) c e3) in
-    let k4 : m .job ≡ 0 = eqb-true _ _ (and-right (a && b && c) d e4) in
-    let k5 : m .replica ≡ 0 = eqb-true _ _ (and-right (a && b && c && d) f e5) in
-    let k6 : m .thief ≡ 0 = eqb-true _ _ (and-right (a && b && c && d && f) g e6) in
-    let k7 : m .price ≡ 0 = eqb-true _ _ (and-right (a && b && c && d && f && g) h e) in
-    cc
-
-empty-is : (m : Message) → emptyMessage m ≡ true → m ≡ noMessage
-unfolding made
-empty-is m e = empty-made m e
 
 -- ---- the slots against the list in flight and its padding
 
@@ -95,7 +65,7 @@ module _ (t : Table) (s : Sized t) where
       same-all noMessage (drop n (t .messages)) (λ i h.
       let c : slot t (n + i) ≡ true = all-at (slot t) 128 (n + i) e (omega arith) in
       let g : emptyMessage (getD (t .messages) (n + i) noMessage) ≡ true = rw (le-leb n (n + i) (omega arith)) at c in
-      getD-drop n (t .messages) i noMessage ∙ empty-is (getD (t .messages) (n + i) noMessage) g) in
+      getD-drop n (t .messages) i noMessage ∙ empty-message (getD (t .messages) (n + i) noMessage) g) in
       let q : length (drop n (t .messages)) ≡ 128 - length (take n (t .messages)) = omega arith in
       sym (take-append-drop n (t .messages)) ∙ ap (λ (l : List Message). take n (t .messages) ++ l) (r ∙ ap (λ (k : ℕ). replicate k noMessage) q)
 
@@ -134,31 +104,28 @@ pub record Tests (t : Table) : Type 0 where
   pub root : rootOk t ≡ true
   pub tolds : toldsOk t ≡ true
 
-apart : (a b c d f g h i : Bool) → a && b && c && d && f && g && h && i ≡ true
-    → (a ≡ true) × (b ≡ true) × (c ≡ true) × (d ≡ true) × (f ≡ true) × (g ≡ true) × (h ≡ true) × (i ≡ true)
-apart a b c d f g h i e =
-    let e7 = and-left (a && b && c && d && f && g && h) i e in
-    let e6 = and-left (a && b && c && d && f && g) h e7 in
-    let e5 = and-left (a && b && c && d && f) g e6 in
-    let e4 = and-left (a && b && c && d) f e5 in
-    let e3 = and-left (a && b && c) d e4 in
-    let e2 = and-left (a && b) c e3 in
-    (and-left a b e2, and-right a b e2, and-right (a && b) c e3, and-right (a && b && c) d e4, and-right (a && b && c && d) f e5, and-right (a && b && c && d && f) g e6, and-right (a && b && c && d && f && g) h e7, and-right (a && b && c && d && f && g && h) i e)
-
-together : (a b c d f g h i : Bool) → a ≡ true → b ≡ true → c ≡ true → d ≡ true → f ≡ true → g ≡ true → h ≡ true → i ≡ true → a && b && c && d && f && g && h && i ≡ true
-together a b c d f g h i e1 e2 e3 e4 e5 e6 e7 e8 = cc
+-- all but the first
+abbrev later : Table → List Bool
+later t = bondsOk t ∷ jobsOk t (bound t) ∷ nodesOk t (bound t) ∷ poolsOk t (bound t) ∷ messagesOk t (bound t) ∷ rootOk t ∷ toldsOk t ∷ []
 
 pub tests : (t : Table) → tableOk t ≡ true → Tests t
 unfolding tableOk
 tests t e =
-    let p = apart (sizesOk t) (bondsOk t) (jobsOk t (bound t)) (nodesOk t (bound t)) (poolsOk t (bound t)) (messagesOk t (bound t)) (rootOk t) (toldsOk t) e in
-    record { sizes = p .0; bonds = p .1; jobs = p .2; nodes = p .3; pools = p .4; messages = p .5; root = p .6; tolds = p .7 }
+    let p = chain-apart (sizesOk t) (later t) e in
+    record {
+      sizes = p .0;
+      bonds = p .1 .0;
+      jobs = p .1 .1 .0;
+      nodes = p .1 .1 .1 .0;
+      pools = p .1 .1 .1 .1 .0;
+      messages = p .1 .1 .1 .1 .1 .0;
+      root = p .1 .1 .1 .1 .1 .1 .0;
+      tolds = p .1 .1 .1 .1 .1 .1 .1 .0;
+    }
 
 pub joined : (t : Table) → Tests t → tableOk t ≡ true
 unfolding tableOk
-joined t p =
-    together (sizesOk t) (bondsOk t) (jobsOk t (bound t)) (nodesOk t (bound t)) (poolsOk t (bound t)) (messagesOk t (bound t)) (rootOk t) (toldsOk t)
-    (p .sizes) (p .bonds) (p .jobs) (p .nodes) (p .pools) (p .messages) (p .root) (p .tolds)
+joined t p = chain-joined (sizesOk t) (later t) (p .sizes) (p .bonds, (p .jobs, (p .nodes, (p .pools, (p .messages, (p .root, (p .tolds, tt)))))))
 
 module _ (t : Table) (s : Sized t) where
   pub ok : tableOk t ≡ true → Ok t
@@ -193,20 +160,17 @@ module _ (t : Table) (s : Sized t) where
 -- ---- the counts
 
 module _ (t : Table) (e : sizesOk t ≡ true) where
-  three : leb 2 (t .machines) && leb (t .machines) 16 && leb (t .entries) 64 ≡ true
-  three = and-left (leb 2 (t .machines) && leb (t .machines) 16 && leb (t .entries) 64) (leb (t .«in_flight») 128) e
-
-  two : leb 2 (t .machines) && leb (t .machines) 16 ≡ true
-  two = and-left (leb 2 (t .machines) && leb (t .machines) 16) (leb (t .entries) 64) three
+  counts : (leb 2 (t .machines) ≡ true) × Every (λ b. b ≡ true) (leb (t .machines) 16 ∷ leb (t .entries) 64 ∷ leb (t .«in_flight») 128 ∷ [])
+  counts = chain-apart (leb 2 (t .machines)) (leb (t .machines) 16 ∷ leb (t .entries) 64 ∷ leb (t .«in_flight») 128 ∷ []) e
 
   pub machines-some : 2 ≤ t .machines
-  machines-some = leb-true _ _ (and-left (leb 2 (t .machines)) (leb (t .machines) 16) two)
+  machines-some = leb-true _ _ (counts .0)
 
   pub machines-most : t .machines ≤ 16
-  machines-most = leb-true _ _ (and-right (leb 2 (t .machines)) (leb (t .machines) 16) two)
+  machines-most = leb-true _ _ (counts .1 .0)
 
   pub entries-most : t .entries ≤ 64
-  entries-most = leb-true _ _ (and-right (leb 2 (t .machines) && leb (t .machines) 16) (leb (t .entries) 64) three)
+  entries-most = leb-true _ _ (counts .1 .1 .0)
 
   pub used-most : t .«in_flight» ≤ 128
-  used-most = leb-true _ _ (and-right (leb 2 (t .machines) && leb (t .machines) 16 && leb (t .entries) 64) (leb (t .«in_flight») 128) e)
+  used-most = leb-true _ _ (counts .1 .1 .1 .0)

@@ -1,13 +1,12 @@
 -- A table that passes check 9 has the facts of proofs/Facts.antt, element by element and then whole.
 -- Assumes nothing.
-use Prim.Native.Nat.{ℕ, suc, _+_, _≤_, _<_}
-use mathlib.Core.Path.{_≡_, refl, sym, ap, _∙_, subst}
+use Prim.Native.Nat.{ℕ, _≤_, _<_}
+use mathlib.Core.Path.{_≡_, refl, sym, ap, subst}
 use mathlib.Core.Logic.{_≢_}
 use mathlib.Core.Bool.{Bool, true, false, not, _&&_, _||_}
 use native.Mathlib.Omega.{arith}
-use borrow.Author.Tests.{eqb-true, eqb-false, ltb-true, eq-eqb, ne-eqb}
-use lib.Dec.{eqb, leb, ltb}
-use Rattle.lists.specs.Scan.{countTo}
+use borrow.Author.Tests.{eqb-true, ltb-true, ne-eqb}
+use lib.Dec.{eqb, ltb}
 use Rattle.lists.proofs.Cases.{byBool, byEq, and-left, and-right, or-elim}
 use Rattle.lists.proofs.Scans.{count-most}
 use Rattle.lists.proofs.Count.{every-map, countTo-one}
@@ -18,8 +17,9 @@ use Rattle.table.specs.declared.Table.{Table}
 use Rattle.table.specs.Views.{noJob, noMachine, jobAt, nodeAt, poolAt, toldAt, flight}
 use Rattle.table.specs.Parts.{lives}
 use Rattle.table.proofs.Views.{Sized}
-use Rattle.elements.specs.Elements.{copyOk, emptyJob, admittedOk, placeOk, jobOk, emptyNode, reservedOk, runningOk, nodeOk, toldOk, withCopy, withThief, kindOk, endsOk, carriesOk, thiefOk, messageOk}
+use Rattle.elements.specs.Elements.{copyOk, emptyJob, admittedOk, placeOk, jobOk, reservedOk, runningOk, nodeOk, withCopy, withThief, kindOk, endsOk, carriesOk, thiefOk, messageOk}
 use Rattle.validity.specs.Validity.{bound}
+use Rattle.preservation.proofs.Empty.{empty-job, empty-machine}
 use Rattle.preservation.proofs.Ok.{Ok, inFlightOk, machines-some, machines-most, entries-most, used-most}
 use Rattle.preservation.proofs.Facts.{JobFacts, MachineFacts, MessageFacts, Facts, copy-job, copy-some, copy-most, bound-pos, kind-some, kind-most, from-in, to-in, to-root, copy-in, thief-in, job-copy, job-place, job-state, node-dead, node-in, node-waits, reserved, runs, told-dead, cell-copy, cell-alive, cell-most}
 
@@ -43,33 +43,6 @@ copy-one E B j r h c =
     record { job = omega arith; most = copy-most E B j r c; entry = λ n. l }
 
 -- ---- a job
-
-unfoldable job-of : ℕ → ℕ → ℕ → ℕ → ℕ → ℕ → Job
-job-of a b c d f g = record { state = a; replica = b; moving = c; holder = d; thief = f; price = g }
-
-empty-parts : (v : Job) → emptyJob v ≡ true → job-of (v .state) (v .replica) (v .moving) (v .holder) (v .thief) (v .price) ≡ job-of 0 0 0 0 0 0
-empty-parts v e =
-    let a = eqb (v .state) 0 in
-    let b = eqb (v .replica) 0 in
-    let c = eqb (v .moving) 0 in
-    let d = eqb (v .holder) 0 in
-    let f = eqb (v .thief) 0 in
-    let g = eqb (v .price) 0 in
-    let e5 = and-left (a && b && c && d && f) g e in
-    let e4 = and-left (a && b && c && d) f e5 in
-    let e3 = and-left (a && b && c) d e4 in
-    let e2 = and-left (a && b) c e3 in
-    let k1 : v .state ≡ 0 = eqb-true _ _ (and-left a b e2) in
-    let k2 : v .replica ≡ 0 = eqb-true _ _ (and-right a b e2) in
-    let k3 : v .moving ≡ 0 = eqb-true _ _ (and-right (a && b) c e3) in
-    let k4 : v .holder ≡ 0 = eqb-true _ _ (and-right (a && b && c) d e4) in
-    let k5 : v .thief ≡ 0 = eqb-true _ _ (and-right (a && b && c && d) f e5) in
-    let k6 : v .price ≡ 0 = eqb-true _ _ (and-right (a && b && c && d && f) g e) in
-    cc
-
-pub empty-job : (v : Job) → emptyJob v ≡ true → v ≡ noJob
-unfolding job-of
-empty-job v e = empty-parts v e
 
 -- the place of a job that is open or priced
 record Place (M : ℕ) (v : Job) : Type 0 where
@@ -171,37 +144,6 @@ module _ (t : Table) (o : Ok t) where
       })
 
 -- ---- a machine
-
-unfoldable machine-of : ℕ → ℕ → ℕ → ℕ → ℕ → ℕ → ℕ → Machine
-machine-of a b c d f g h = record { alive = a; «reserved_job» = b; «reserved_replica» = c; «reserved_thief» = d; «running_job» = f; «running_replica» = g; waits = h }
-
-idle-parts : (n : Machine) → emptyNode n ≡ true
-    → machine-of (n .alive) (n .«reserved_job») (n .«reserved_replica») (n .«reserved_thief») (n .«running_job») (n .«running_replica») (n .waits) ≡ machine-of 0 0 0 0 0 0 0
-idle-parts n e =
-    let a = eqb (n .alive) 0 in
-    let b = eqb (n .«reserved_job») 0 in
-    let c = eqb (n .«reserved_replica») 0 in
-    let d = eqb (n .«reserved_thief») 0 in
-    let f = eqb (n .«running_job») 0 in
-    let g = eqb (n .«running_replica») 0 in
-    let h = eqb (n .waits) 0 in
-    let e6 = and-left (a && b && c && d && f && g) h e in
-    let e5 = and-left (a && b && c && d && f) g e6 in
-    let e4 = and-left (a && b && c && d) f e5 in
-    let e3 = and-left (a && b && c) d e4 in
-    let e2 = and-left (a && b) c e3 in
-    let k1 : n .alive ≡ 0 = eqb-true _ _ (and-left a b e2) in
-    let k2 : n .«reserved_job» ≡ 0 = eqb-true _ _ (and-right a b e2) in
-    let k3 : n .«reserved_replica» ≡ 0 = eqb-true _ _ (and-right (a && b) c e3) in
-    let k4 : n .«reserved_thief» ≡ 0 = eqb-true _ _ (and-right (a && b && c) d e4) in
-    let k5 : n .«running_job» ≡ 0 = eqb-true _ _ (and-right (a && b && c && d) f e5) in
-    let k6 : n .«running_replica» ≡ 0 = eqb-true _ _ (and-right (a && b && c && d && f) g e6) in
-    let k7 : n .waits ≡ 0 = eqb-true _ _ (and-right (a && b && c && d && f && g) h e) in
-    cc
-
-pub empty-machine : (n : Machine) → emptyNode n ≡ true → n ≡ noMachine
-unfolding machine-of
-empty-machine n e = idle-parts n e
 
 -- the copies of a living machine
 module _ (M E B : ℕ) (n : Machine) (z : 0 < M) (l : E ≤ 64) where

@@ -1,6 +1,6 @@
 -- The arrays keep their lengths, and the number in flight stays within its 128, through every handler and every accepted event.
 -- Assumes nothing.
-use Prim.Native.Nat.{ℕ, zero, suc, _+_, _-_, _≤_, _<_, max}
+use Prim.Native.Nat.{ℕ, zero, suc, _+_, _-_, _<_, max}
 use mathlib.Core.Path.{_≡_, refl}
 use mathlib.Core.Bool.{not, _&&_, _||_}
 use native.Mathlib.Omega.{arith}
@@ -10,8 +10,8 @@ use Rattle.lists.proofs.Cases.{byBool}
 use Rattle.table.specs.declared.Job.{Job}
 use Rattle.table.specs.declared.Table.{Table}
 use Rattle.table.specs.declared.Message.{Message}
-use Rattle.table.specs.Views.{noMachine, jobAt, nodeAt, poolAt, toldAt, messageAt, withJob, withNode, withPool, withMessages, enter}
-use Rattle.table.specs.Messages.{pull, lowest, wipe, sift, notTo, notFrom}
+use Rattle.table.specs.Views.{noMachine, jobAt, nodeAt, poolAt, toldAt, messageAt, withMessages, enter}
+use Rattle.table.specs.Messages.{pull, lowest, wipe, notTo, notFrom}
 use Rattle.table.specs.Parts.{opened, reserves, release, returned}
 use Rattle.table.proofs.Views.{Sized, views, sized-job, sized-node, sized-pool, sized-told}
 use Rattle.table.proofs.Messages.{sized-send, sized-pull, sized-sift}

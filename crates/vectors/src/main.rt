@@ -9,6 +9,8 @@
 use pricer::Bond;
 use pricer::Terms;
 use term::Reading;
+ghost use mathlib.Core.Path.{_≡_};
+ghost use lib.ListN.{length};
 
 const ZERO: u8 = 1;
 
@@ -30,10 +32,9 @@ enum Which {
 }
 
 // Whether the record's text has the verdict that the record expects.
-fn verdict_agrees(record: &[u8]) -> bool {
-    if record.len() != 32 {
-        return false;
-    }
+fn verdict_agrees(record: &[u8]) -> bool
+    requires { ⌜ length (now «record») ≡ 32 ⌝ }
+{
     let length = record[1];
     if 30 < length {
         return false;
@@ -52,10 +53,9 @@ fn class_of(b: Bond) -> u8 {
 }
 
 // Whether the record's term is refused as the record expects, or read as a bond of its class and with its price.
-fn price_agrees(record: &[u8]) -> bool {
-    if record.len() != 32 {
-        return false;
-    }
+fn price_agrees(record: &[u8]) -> bool
+    requires { ⌜ length (now «record») ≡ 32 ⌝ }
+{
     let reading = term::read(&record[1..20]);
     match reading {
         Reading::Faulty => record[0] == REFUSED,
@@ -65,7 +65,9 @@ fn price_agrees(record: &[u8]) -> bool {
     }
 }
 
-fn agrees(record: &[u8], content: Content) -> bool {
+fn agrees(record: &[u8], content: Content) -> bool
+    requires { ⌜ length (now «record») ≡ 32 ⌝ }
+{
     match content {
         Content::Identifiers => verdict_agrees(record),
         Content::TermsAndPrices => price_agrees(record),
@@ -73,15 +75,16 @@ fn agrees(record: &[u8], content: Content) -> bool {
 }
 
 // Whether the record is of this class.
-fn expects(record: &[u8], class: u8) -> bool {
-    if record.len() != 32 {
-        return false;
-    }
+fn expects(record: &[u8], class: u8) -> bool
+    requires { ⌜ length (now «record») ≡ 32 ⌝ }
+{
     record[0] == class
 }
 
 // Whether the record differs from what it expects; if so, its number i is printed.
-fn differs(record: &[u8], i: usize, content: Content) -> bool {
+fn differs(record: &[u8], i: usize, content: Content) -> bool
+    requires { ⌜ length (now «record») ≡ 32 ⌝ }
+{
     if agrees(record, content) {
         return false;
     }
@@ -90,7 +93,9 @@ fn differs(record: &[u8], i: usize, content: Content) -> bool {
 }
 
 // Whether the record of number i is one of those to be counted.
-fn is_counted(record: &[u8], i: usize, content: Content, which: Which) -> bool {
+fn is_counted(record: &[u8], i: usize, content: Content, which: Which) -> bool
+    requires { ⌜ length (now «record») ≡ 32 ⌝ }
+{
     match which {
         Which::Expecting(class) => expects(record, class),
         Which::Agreeing(class) => expects(record, class) & agrees(record, content),

@@ -1,0 +1,18 @@
+-- The form of an event, by its length and then by its bytes.
+-- Assumes nothing.
+use Prim.Native.Nat.{ℕ, _≤_, _<_}
+use mathlib.Core.Path.{_≡_}
+use mathlib.Core.Bool.{false, _&&_, _||_}
+use mathlib.Core.List.{List}
+use borrow.Author.Tests.{le-leb, lt-leb}
+use lib.Dec.{eqb, leb}
+use lib.ListN.{length}
+use Rattle.dispatcher.specs.Step.{codeOf, secondOf, usesSecond, formed}
+
+pub formed-short : (e : List ℕ) → length e < 3 → formed e ≡ false
+unfolding formed
+formed-short e h = rw (lt-leb 3 (length e) h)
+
+pub formed-is : (e : List ℕ) → 3 ≤ length e → formed e ≡ (leb 1 (codeOf e) && leb (codeOf e) 7 && (usesSecond (codeOf e) || eqb (secondOf e) 0))
+unfolding formed
+formed-is e h = rw (le-leb 3 (length e) h)

@@ -1,0 +1,89 @@
+-- At most 640 deliveries, as many as the messages in flight weigh: after them nothing is in flight.
+-- Assumes nothing.
+use mathlib.Core.Path.{_≡_, refl, ap, _∙_}
+use mathlib.Core.Logic.{_≢_}
+use mathlib.Core.List.{List, [], _∷_}
+use Prim.Native.Nat.{ℕ, zero, suc, _+_, _≤_, _<_}
+use native.Mathlib.Omega.{arith}
+use native.Mathlib.Nat.{not-suc-le-zero}
+use lib.ListN.{length, getD, take}
+use Rattle.table.specs.declared.Message.{Message}
+use Rattle.table.specs.declared.Table.{Table}
+use Rattle.table.specs.Views.{noMessage, nodeAt, toldAt, messageAt, flight}
+use Rattle.table.specs.Messages.{pull}
+use Rattle.table.specs.Parts.{accept}
+use Rattle.table.proofs.Views.{views, length-flight}
+use Rattle.table.proofs.Messages.{flight-pull, message-flight}
+use Rattle.events.specs.Events.{delivered}
+use Rattle.lists.specs.Scan.{without}
+use Rattle.lists.proofs.Cases.{byEq}
+use Rattle.invariant.proofs.State.{Whole}
+use Rattle.invariant.proofs.Hand.{hand}
+use Rattle.invariant.proofs.Fixed.{fixed-delivered}
+use Rattle.dispatcher.specs.Step.{stepOf}
+use Rattle.drain.proofs.Reach.{Reach, reach-here, reach-step}
+use Rattle.drain.proofs.Steps.{event, accepts-deliver}
+use Rattle.drain.proofs.Kept.{kept, fixed-machines}
+use Rattle.drain.proofs.Weights.{weight, weightOf, weight-range, weight-most, Lighter, lighter}
+
+-- the root was told of every dead machine
+abbrev pub Informed : Table → Type 0
+Informed t = (d : ℕ) → d < t .machines → nodeAt t d .alive ≢ 1 → toldAt t 0 d ≢ 0
+
+pub informed-same : (t u : Table) → u .machines ≡ t .machines → ((m : ℕ) → nodeAt u m .alive ≡ nodeAt t m .alive) → ((m d : ℕ) → toldAt u m d ≡ toldAt t m d) → Informed t → Informed u
+informed-same t u mc al tl i d l g = rw (tl 0 d) (i d (rw mc at l) (λ e. g (al d ∙ e)))
+
+-- and nothing is in flight
+pub record Quiet (t : Table) : Type 0 where
+  pub whole : Whole t
+  pub informed : Informed t
+  pub empty : t .«in_flight» ≡ 0
+
+pub flight-empty : (t : Table) → t .«in_flight» ≡ 0 → flight t ≡ []
+unfolding flight
+flight-empty t e = ap (λ (n : ℕ). take n (t .messages)) e
+
+-- ---- the first message is delivered
+
+weight-first : (l : List Message) → 0 < length l → weightOf (getD l 0 noMessage .kind) + weight (without 0 l) ≡ weight l
+unfolding without
+weight-first [] h = absurd (not-suc-le-zero h)
+weight-first (x ∷ xs) h = refl
+
+module _ (t : Table) (w : Whole t) (h : 0 < t .«in_flight») where
+  first-weight : weightOf (messageAt t 0 .kind) + weight (flight (pull t 0)) ≡ weight (flight t)
+  first-weight =
+      let n = length-flight t (w .sized) in
+      rw (flight-pull t (w .sized) 0 h, ← message-flight t (w .sized) 0 h) (weight-first (flight t) (omega arith))
+
+  handled : Lighter (pull t 0) (messageAt t 0) (delivered t 0)
+  unfolding delivered
+  handled = lighter (pull t 0) (messageAt t 0) (hand t 0 w h)
+
+  next-lighter : weight (flight (delivered t 0)) < weight (flight t)
+  next-lighter = omega (arith, first-weight, handled .weighs)
+
+  next-informed : Informed t → Informed (delivered t 0)
+  unfolding pull
+  next-informed =
+      informed-same t (delivered t 0) (fixed-delivered (λ v. v .machines) fixed-machines t 0)
+      (λ m. handled .alive m ∙ simp views) (λ m d. handled .told m d ∙ simp views)
+
+pub deliveries : (n : ℕ) (t : Table) → Whole t → Informed t → weight (flight t) ≤ n → Reach Quiet t n
+deliveries zero t w i h =
+    byEq (t .«in_flight») 0
+    (λ e. reach-here Quiet t 0 (record { whole = w; informed = i; empty = e }))
+    (λ e. absurd (omega (arith, first-weight t w (omega arith), weight-range (messageAt t 0 .kind) .0)))
+deliveries (suc n) t w i h =
+    byEq (t .«in_flight») 0
+    (λ e. reach-here Quiet t (suc n) (record { whole = w; informed = i; empty = e }))
+    (λ e.
+    let some : 0 < t .«in_flight» = omega arith in
+    let x = messageAt t 0 in
+    let u = delivered t 0 in
+    let step : stepOf t (event 3 (x .from) (x .to)) ≡ accept u = accepts-deliver t w some in
+    reach-step Quiet t u (event 3 (x .from) (x .to)) n step refl
+    (deliveries n u (kept t u (event 3 (x .from) (x .to)) w step) (next-informed t w some i) (omega (arith, next-lighter t w some))))
+
+pub deliveries-640 : (t : Table) → Whole t → Informed t → Reach Quiet t 640
+deliveries-640 t w i = deliveries 640 t w i (omega (arith, weight-most (flight t), length-flight t (w .sized), w .sized .used))

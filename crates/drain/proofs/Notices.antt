@@ -1,0 +1,78 @@
+-- At most 15 notices to the root: after them it was told of every dead machine of the table's machine count.
+-- Assumes nothing.
+use mathlib.Core.Path.{_≡_, refl, ap, _∙_}
+use mathlib.Core.Logic.{_≢_}
+use Prim.Native.Nat.{ℕ, suc, _≤_, _<_}
+use native.Mathlib.Omega.{arith}
+use lib.Dec.{ltb}
+use borrow.Author.Tests.{ltb-true, ltb-false}
+use Rattle.table.specs.declared.Machine.{Machine}
+use Rattle.table.specs.declared.Table.{Table}
+use Rattle.table.specs.Views.{nodeAt, toldAt}
+use Rattle.table.specs.Parts.{accept}
+use Rattle.events.specs.Notice.{quieted, noticed}
+use Rattle.lists.proofs.Cases.{byBool, byEq}
+use Rattle.invariant.proofs.State.{Whole}
+use Rattle.invariant.proofs.Fixed.{fixed-noticed}
+use Rattle.invariant.proofs.Quieted.{node-quieted, node-quieted-other, told-quieted, told-quieted-other}
+use Rattle.invariant.proofs.ConservedNotice.{alive-quieted}
+use Rattle.invariant.proofs.Reissued.{node-reissue, told-reissue}
+use Rattle.dispatcher.specs.Step.{stepOf}
+use Rattle.drain.proofs.Reach.{Reach, reach-here, reach-step, reach-loop}
+use Rattle.drain.proofs.Steps.{event, accepts-notice}
+use Rattle.drain.proofs.Kept.{kept, fixed-machines}
+
+-- ---- the table after a notice to the root
+
+module _ (t : Table) (b : ℕ) (w : Whole t) where
+  alive-noticed : (m : ℕ) → nodeAt (noticed t 0 b) m .alive ≡ nodeAt t m .alive
+  unfolding noticed
+  alive-noticed m =
+      ap (λ (n : Machine). n .alive) (node-reissue (quieted t 0 b) b m)
+      ∙ byEq m 0
+      (λ e. rw e (ap (λ (n : Machine). n .alive) (node-quieted t 0 b (w .sized) (omega arith)) ∙ alive-quieted (nodeAt t 0) b))
+      (λ e. ap (λ (n : Machine). n .alive) (node-quieted-other t 0 b m e))
+
+  told-noticed : b < 16 → toldAt (noticed t 0 b) 0 b ≡ 1
+  unfolding noticed
+  told-noticed bl = told-reissue (quieted t 0 b) b 0 b ∙ told-quieted t 0 b (w .sized) (omega arith) bl
+
+  told-noticed-other : (d : ℕ) → b < 16 → d < 16 → d ≢ b → toldAt (noticed t 0 b) 0 d ≡ toldAt t 0 d
+  unfolding noticed
+  told-noticed-other d bl dl e = told-reissue (quieted t 0 b) b 0 d ∙ told-quieted-other t 0 b 0 d bl dl e
+
+-- the root was told of every dead machine up to k
+pub record Told (k : ℕ) (t : Table) : Type 0 where
+  pub whole : Whole t
+  pub told : (d : ℕ) → d ≤ k → d < t .machines → nodeAt t d .alive ≢ 1 → toldAt t 0 d ≢ 0
+
+told-start : (t : Table) → Whole t → Told 0 t
+told-start t w = record { whole = w; told = λ d l m g. let z : d ≡ 0 = omega arith in absurd (g (ap (λ (i : ℕ). nodeAt t i .alive) z ∙ w .facts .root)) }
+
+-- one machine more
+one : (k : ℕ) (t : Table) → k < 15 → Told k t → Reach (Told (suc k)) t 1
+one k t kl h =
+    let w = h .whole in
+    let b = suc k in
+    let here : ((d : ℕ) → d ≡ b → d < t .machines → nodeAt t d .alive ≢ 1 → toldAt t 0 d ≢ 0) → Reach (Told (suc k)) t 1 = λ f.
+    reach-here (Told (suc k)) t 1 (record { whole = w; told = λ d l. byEq d b (f d) (λ e. h .told d (omega arith)) }) in
+    byBool (ltb b (t .machines))
+    (λ c. let bl : b < t .machines = ltb-true b (t .machines) c in byEq (nodeAt t b .alive) 1
+    (λ e. here (λ d q l g. absurd (g (ap (λ (i : ℕ). nodeAt t i .alive) q ∙ e))))
+    (λ gone. byEq (toldAt t 0 b) 0
+    (λ e.
+    let u = noticed t 0 b in
+    let step : stepOf t (event 7 0 b) ≡ accept u = accepts-notice t w b bl gone e in
+    let same : u .machines ≡ t .machines = fixed-noticed (λ v. v .machines) fixed-machines t 0 b in
+    reach-step (Told (suc k)) t u (event 7 0 b) 0 step refl
+    (reach-here (Told (suc k)) u 0 (record {
+      whole = kept t u (event 7 0 b) w step;
+      told = λ d l m g. byEq d b
+          (λ q. rw (q, told-noticed t b w (omega arith)) (λ z. omega arith))
+          (λ q. rw (told-noticed-other t b w d (omega arith) (omega arith) q) (h .told d (omega arith) (omega arith) (λ a. g (alive-noticed t b w d ∙ a))));
+    })))
+    (λ e. here (λ d q l g. rw q e))))
+    (λ c. let out : t .machines ≤ b = ltb-false b (t .machines) c in here (λ d q l. absurd (omega arith)))
+
+pub notices : (t : Table) → Whole t → Reach (Told 15) t 15
+notices t w = reach-loop Told 1 15 (λ k u. one k u) t (told-start t w)

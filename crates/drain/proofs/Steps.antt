@@ -1,0 +1,74 @@
+-- When the dispatcher accepts a Deliver, a Start, a Done and a Notice to the root, at a table of the invariant.
+-- Assumes nothing.
+use mathlib.Core.Path.{_≡_, refl, _∙_}
+use mathlib.Core.Logic.{_≢_}
+use mathlib.Core.Bool.{Bool, true, false}
+use mathlib.Core.List.{List, [], _∷_}
+use Prim.Native.Nat.{ℕ, _<_}
+use native.Mathlib.Omega.{arith}
+use lib.Dec.{eqb}
+use borrow.Author.Tests.{eq-eqb, ne-eqb, lt-ltb, lt-leb}
+use Rattle.table.specs.declared.Table.{Table}
+use Rattle.table.specs.Views.{nodeAt, poolAt, toldAt, messageAt}
+use Rattle.table.specs.Messages.{chan, oldest}
+use Rattle.table.specs.Parts.{accept}
+use Rattle.events.specs.Events.{delivered, deliverOf, started, startOf, finished, doneOf}
+use Rattle.events.specs.Notice.{noticed, noticeOf}
+use Rattle.lists.proofs.Scans.{least-none, least-found}
+use Rattle.preservation.proofs.Facts.{MessageFacts}
+use Rattle.preservation.proofs.Ok.{passes}
+use Rattle.invariant.proofs.State.{Whole}
+use Rattle.invariant.proofs.Flight.{every-taken}
+use Rattle.dispatcher.specs.Step.{formed, numbered, eventOf, answerOf, stepOf}
+use Rattle.dispatcher.proofs.Kept.{step-answer}
+
+-- the three bytes of an event
+abbrev pub event : ℕ → ℕ → ℕ → List ℕ
+event c a b = c ∷ a ∷ b ∷ []
+
+module _ (t : Table) (w : Whole t) where
+  -- past 9, 10 and 11
+  step-event : (c a b : ℕ) → formed (event c a b) ≡ true → numbered t c a b ≡ true → stepOf t (event c a b) ≡ eventOf t c a b
+  unfolding answerOf
+  step-event c a b f n = step-answer t (event c a b) (passes t (w .sized) (w .ok)) ∙ rw (f, n)
+
+  two-machines : (c a b : ℕ) → eqb c 1 ≡ false → eqb c 4 ≡ false → a < t .machines → b < t .machines → numbered t c a b ≡ true
+  unfolding numbered
+  two-machines c a b c1 c4 al bl = rw (c1, c4, lt-ltb a (t .machines) al, lt-ltb b (t .machines) bl)
+
+  -- ---- Deliver: the first message's own channel has it as its oldest
+  oldest-first : 0 < t .«in_flight» → oldest t (messageAt t 0 .from) (messageAt t 0 .to) ≡ 0
+  unfolding oldest
+  oldest-first h =
+      let x = messageAt t 0 in
+      let p : ℕ → Bool = λ i. chan (x .from) (x .to) (messageAt t i) in
+      least-found p (t .«in_flight») 0 h (least-none p) (rw (eq-eqb (x .from) (x .from) refl, eq-eqb (x .to) (x .to) refl))
+
+  pub accepts-deliver : 0 < t .«in_flight» → stepOf t (event 3 (messageAt t 0 .from) (messageAt t 0 .to)) ≡ accept (delivered t 0)
+  unfolding formed eventOf deliverOf
+  accepts-deliver h =
+      let x = messageAt t 0 in
+      let f : MessageFacts t x = every-taken t 0 (w .sized) h (MessageFacts t) (w .facts .message) .0 in
+      step-event 3 (x .from) (x .to) refl (two-machines 3 (x .from) (x .to) refl refl (f .from-in) (f .to-in))
+      ∙ rw (oldest-first h, lt-leb (t .«in_flight») 0 h)
+
+  -- ---- Start
+  pub accepts-start : (a b : ℕ) → a < 16 → b < 64 → nodeAt t a .alive ≡ 1 → nodeAt t a .«running_replica» ≡ 0 → poolAt t a b ≢ 0 → stepOf t (event 4 a b) ≡ accept (started t a b)
+  unfolding formed numbered eventOf startOf
+  accepts-start a b al bl lives free there =
+      step-event 4 a b refl (rw (lt-ltb a (t .machines) (w .facts .machine a al .alive-in lives), lt-ltb b (t .entries) (w .facts .pool-entry a b al bl there)))
+      ∙ rw (eq-eqb (nodeAt t a .alive) 1 lives, eq-eqb (nodeAt t a .«running_replica») 0 free, ne-eqb (poolAt t a b) 0 there)
+
+  -- ---- Done
+  pub accepts-done : (a : ℕ) → a < 16 → nodeAt t a .alive ≡ 1 → nodeAt t a .«running_replica» ≢ 0 → t .«in_flight» < 128 → stepOf t (event 5 a 0) ≡ accept (finished t a)
+  unfolding formed eventOf doneOf
+  accepts-done a al lives runs room =
+      step-event 5 a 0 refl (two-machines 5 a 0 refl refl (w .facts .machine a al .alive-in lives) (omega (arith, w .facts .machines-some)))
+      ∙ rw (eq-eqb (nodeAt t a .alive) 1 lives, ne-eqb (nodeAt t a .«running_replica») 0 runs, lt-leb 128 (t .«in_flight») room)
+
+  -- ---- Notice to the root
+  pub accepts-notice : (b : ℕ) → b < t .machines → nodeAt t b .alive ≢ 1 → toldAt t 0 b ≡ 0 → stepOf t (event 7 0 b) ≡ accept (noticed t 0 b)
+  unfolding formed eventOf noticeOf
+  accepts-notice b bl gone told =
+      step-event 7 0 b refl (two-machines 7 0 b refl refl (omega (arith, w .facts .machines-some)) bl)
+      ∙ rw (eq-eqb (nodeAt t 0 .alive) 1 (w .facts .root), ne-eqb (nodeAt t b .alive) 1 gone, eq-eqb (toldAt t 0 b) 0 told)

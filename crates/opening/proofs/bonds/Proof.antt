@@ -1,0 +1,89 @@
+-- `opening::bonds` meets its contract. The loop keeps: the bonds of the entries passed so far, and no bond past them.
+-- Assumes nothing.
+use Rattle.lists.proofs.Rules.{tests}
+use Prim.Native.Nat.{_≤_, _-_}
+use mathlib.Core.Path.{_≡_}
+use Prim.Native.Nat.{ℕ, _<_}
+use Rattle.pricer.specs.declared.Bond.{Bond}
+use lib.ListN.{set}
+use native.Mathlib.Omega.{arith}
+use mathlib.Core.Path.{_≡_, ap, _∙_}
+use Rattle.lists.proofs.Scans.{list-none, list-more, list-end}
+use Rattle.book.specs.Parts.{bondAt}
+use Rattle.book.proofs.Accepted.{counted, bond-below}
+use Rattle.opening.proofs.Counts.{entries-most}
+use Rattle.lists.specs.Scan.{padTo, listOf}
+use Rattle.book.specs.Parts.{entryCount, noBond, bondOf}
+use Rattle.opening.specs.Opening.{bondsOf}
+use Rattle.opening.proofs.bonds.Statement.{statement}
+use Rattle.opening.proofs.bonds.Tie as tie
+
+abbrev Inv-loop : tie.InvT-loop
+Inv-loop s n out₀ i₀ out i = (n ≡ entryCount s) × (i ≤ n) × (out ≡ padTo 64 noBond (listOf (bondOf s) i))
+
+abbrev μ-loop : tie.MeasureT-loop
+μ-loop s n out₀ i₀ out i = n - i
+
+entries-requires : tie.Need-entries-requires Inv-loop μ-loop
+entries-requires c κs = search tests
+
+cast-n : tie.Need-cast-n Inv-loop μ-loop
+cast-n c = search tests
+
+no-bonds-requires : tie.Need-no-bonds-requires Inv-loop μ-loop
+no-bonds-requires c κs = search tests
+
+-- in a turn the entry is one of the book's
+below : (c : tie.In-loop Inv-loop μ-loop) → c .before .loop .i < entryCount (c .before .before .before .before .before .args .s .now)
+below c = omega (arith, c .before .loop .inv .0)
+
+loop-holds : tie.Need-loop-holds Inv-loop μ-loop
+loop-holds c = (c .before .entries .ensures, search tests, c .no-bonds .ensures ∙ list-none _ 64 noBond)
+
+bond-at-requires : tie.Need-bond-at-requires Inv-loop μ-loop
+bond-at-requires c κs = let k = counted _ _ (below c) in let e = c .before .loop .inv .0 in (omega (arith, k .whole, e), (search tests, omega (arith, k .most, e)))
+
+mul-out : tie.Need-mul-out Inv-loop μ-loop
+mul-out c = search tests
+
+array-set-from-out : tie.Need-array-set-from-out Inv-loop μ-loop
+array-set-from-out c = omega (arith, below (c .before), entries-most (c .before .before .before .before .before .before .args .s .now))
+
+add-i : tie.Need-add-i Inv-loop μ-loop
+add-i c = search tests
+
+loop-less : tie.Need-loop-less Inv-loop μ-loop
+loop-less c = search tests
+
+loop-again : tie.Need-loop-again Inv-loop μ-loop
+loop-again c =
+    let l = c .before .before in
+    let s = l .before .before .before .before .args .s .now in (
+      l .loop .inv .0,
+      search tests,
+      ap (λ (b : Bond). set (l .loop .out) (l .loop .i) b)
+          (c .bond-at .ensures ∙ ap (λ (n : ℕ). bondAt s n (l .loop .i)) (l .loop .inv .0) ∙ bond-below s (l .loop .i) (below (c .before)))
+          ∙ list-more (bondOf s) 64 noBond (l .loop .i) (l .loop .out) (omega (arith, below (c .before), entries-most s)) (l .loop .inv .2),
+    )
+
+returns : tie.Need-returns Inv-loop μ-loop
+unfolding bondsOf
+returns c = list-end _ 64 noBond _ (c .before .loop .i) (c .before .loop .out) (omega (arith, c .before .loop .inv .0)) (omega (arith, c .before .loop .inv .0)) (c .before .loop .inv .2)
+
+pub bonds-spec : {M : Type 1} → statement M
+bonds-spec =
+    tie.close
+    (tie.spec
+    Inv-loop
+    μ-loop
+    entries-requires
+    cast-n
+    no-bonds-requires
+    loop-holds
+    bond-at-requires
+    mul-out
+    array-set-from-out
+    add-i
+    loop-less
+    loop-again
+    returns)

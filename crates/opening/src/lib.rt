@@ -1,0 +1,134 @@
+// Opening a book: its number, beside the fresh table where it is accepted.
+ghost use mathlib.Core.Path.{_≡_};
+ghost use Prim.Native.Nat.{_≤_};
+ghost use lib.ListN.{replicate};
+ghost use Rattle.book.specs.Parts.{noBond};
+ghost use Rattle.opening.specs.Opening.{blank, quiet, bondsOf, nodesOf, freshOf, noTable, openOf};
+use pricer::Bond;
+use pricer::Terms;
+use table::Answer;
+use table::Job;
+use table::Machine;
+use table::Message;
+use table::Table;
+
+// A machine with no copy and no wait, of which alive says whether it is.
+fn machine(alive: u8) -> Machine
+    ensures { λ r. ⌜ r ≡ quiet alive ⌝ }
+{
+    Machine {
+        alive,
+        reserved_job: 0,
+        reserved_replica: 0,
+        reserved_thief: 0,
+        running_job: 0,
+        running_replica: 0,
+        waits: 0,
+    }
+}
+
+fn no_bonds() -> [Bond; 64]
+    ensures { λ r. ⌜ r ≡ replicate 64 noBond ⌝ }
+{
+    let none = Bond {
+        periods: 0,
+        terms: Terms::Zero(0.0),
+    };
+    [none; 64]
+}
+
+// The bonds of an accepted book's entries, and no bond past the last one.
+fn bonds(s: &[u8]) -> [Bond; 64]
+    ensures { λ r. ⌜ r ≡ bondsOf (now (s .entry)) ⌝ }
+{
+    let n = book::entries(s) as usize;
+    let mut out = no_bonds();
+    let mut i: usize = 0;
+    while i < n {
+        out[i] = book::bond_at(s, n, i);
+        i += 1;
+    }
+    out
+}
+
+// So many machines alive, and none past the last one.
+fn nodes(m: u8) -> [Machine; 16]
+    requires { ⌜ m ≤ 16 ⌝ }
+    ensures { λ r. ⌜ r ≡ nodesOf m ⌝ }
+{
+    let n = m as usize;
+    let mut out = [machine(0); 16];
+    let mut i: usize = 0;
+    while i < n {
+        out[i] = machine(1);
+        i += 1;
+    }
+    out
+}
+
+// A table with these counts, bonds and machines, in which nothing has happened.
+fn blank(machines: u8, entries: u8, bonds: [Bond; 64], nodes: [Machine; 16]) -> Table
+    ensures { λ r. ⌜ r ≡ blank machines entries bonds nodes ⌝ }
+{
+    let job = Job {
+        state: 0,
+        replica: 0,
+        moving: 0,
+        holder: 0,
+        thief: 0,
+        price: 0,
+    };
+    let message = Message {
+        kind: 0,
+        from: 0,
+        to: 0,
+        job: 0,
+        replica: 0,
+        thief: 0,
+        price: 0,
+    };
+    Table {
+        machines,
+        entries,
+        bonds,
+        jobs: [job; 64],
+        nodes,
+        told: [0; 256],
+        pools: [0; 1024],
+        in_flight: 0,
+        messages: [message; 128],
+    }
+}
+
+fn no_table() -> Table
+    ensures { λ r. ⌜ r ≡ noTable ⌝ }
+{
+    blank(0, 0, no_bonds(), [machine(0); 16])
+}
+
+fn fresh(s: &[u8]) -> Table
+    ensures { λ r. ⌜ r ≡ freshOf (now (s .entry)) ⌝ }
+{
+    let m = book::machines(s);
+    let n = book::entries(s);
+    blank(m, n, bonds(s), nodes(m))
+}
+
+// 0 and the fresh table for an accepted book, else the book's number and no table.
+pub fn open(s: &[u8]) -> Answer
+    ensures { λ r. ⌜ r ≡ openOf (now (s .entry)) ⌝ }
+{
+    let number = book::verdict(s);
+    if number != 0 {
+        let none = no_table();
+        return Answer {
+            number,
+            table: none,
+        };
+    }
+    let t = fresh(s);
+    Answer {
+        number: 0,
+        table: t,
+    }
+}
