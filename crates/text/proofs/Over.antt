@@ -1,12 +1,13 @@
 -- Laws of a text written over a buffer: its length, one text after another, one more character. Assumes nothing.
-use Prim.Native.Nat.{ℕ, suc, _+_, _≤_, _<_}
+use Prim.Native.Nat.{ℕ, zero, suc, _+_, _*_, _≤_, _<_}
 use mathlib.Core.Path.{_≡_, refl, sym, ap, _∙_}
 use mathlib.Core.List.{List, [], _∷_, _++_, append-assoc, append-nil}
+use native.Mathlib.Nat.{suc-mul}
 use native.Mathlib.Omega.{arith}
 use native.Mathlib.Numerals.{add-one}
 use lib.ListN.{length, take, drop, set, getD, length-append, length-take, length-drop}
 use lib.Seq.{paste, paste-zero, length-paste, length-paste-head, take-length, length-take-le, take-at, drop-at, drop-drop, take-set-le, set-split, append-snoc, paste-suc}
-use Rattle.text.specs.Text.{over, Written}
+use Rattle.text.specs.Text.{over, Written, joined}
 
 -- a copy of all of s
 pub over-paste : (d : List ℕ) (at : ℕ) (s : List ℕ) → paste d at s (length s) ≡ over d at s
@@ -79,3 +80,21 @@ then {d} {at} {a} {e} {m} {b} {f} {r} g h k =
 pub then-two : {d : List ℕ} {at : ℕ} {a : List ℕ} {e : List ℕ} {m : ℕ} {b : List ℕ} {f : List ℕ} {r : ℕ} {w : List ℕ} {g : List ℕ} {s : ℕ}
     → Written d at a e m → Written e m b f r → Written f r w g s → at + length (a ++ b ++ w) ≤ length d → Written d at (a ++ b ++ w) g s
 then-two {d} {at} {a} {e} {m} {b} {f} {r} {w} p q t k = then (then p q (omega (arith, length-append (a ++ b) w))) t k
+
+-- ---- texts one after another, each written by a turn of a loop
+
+module _ (f : ℕ → List ℕ) where
+  pub joined-most : (b n : ℕ) → ((i : ℕ) → i < n → length (f i) ≤ b) → length (joined f n) ≤ n * b
+  unfolding joined
+  joined-most b zero h = omega arith
+  joined-most b (suc n) h =
+      omega (arith, length-append (joined f n) (f n), joined-most b n (λ i l. h i (omega arith)), h n (omega arith), suc-mul n b)
+
+  pub joined-none : (d : List ℕ) (at : ℕ) → at ≤ length d → Written d at (joined f 0) d at
+  unfolding joined
+  joined-none d at h = record { text = sym (over-none d at); end = omega arith }
+
+  pub joined-more : {d : List ℕ} {at : ℕ} {k : ℕ} {e : List ℕ} {m : ℕ} {g : List ℕ} {r : ℕ}
+      → Written d at (joined f k) e m → Written e m (f k) g r → at + length (joined f (k + 1)) ≤ length d → Written d at (joined f (k + 1)) g r
+  unfolding joined
+  joined-more {d} {at} {k} p q h = rw (add-one k) (then p q (rw (add-one k) at h))

@@ -42,3 +42,8 @@ decimal n = lowDigits 10 (widthOf n) n
 -- "16 upper-case hexadecimal digits of the bits"
 unfoldable pub hex16 : ℕ → List ℕ
 hex16 x = lowDigits 16 16 x
+
+-- the texts f 0, f 1, .. f (n - 1), one after another
+unfoldable pub joined : (ℕ → List ℕ) → ℕ → List ℕ
+joined f zero = []
+joined f (suc n) = joined f n ++ f n
