@@ -69,7 +69,7 @@ module _ (t : Table) (w : Whole t) (h : 0 < t .«in_flight») where
       informed-same t (delivered t 0) (fixed-delivered (λ v. v .machines) fixed-machines t 0)
       (λ m. handled .alive m ∙ simp views) (λ m d. handled .told m d ∙ simp views)
 
-pub deliveries : (n : ℕ) (t : Table) → Whole t → Informed t → weight (flight t) ≤ n → Reach Quiet t n
+deliveries : (n : ℕ) (t : Table) → Whole t → Informed t → weight (flight t) ≤ n → Reach Quiet t n
 deliveries zero t w i h =
     byEq (t .«in_flight») 0
     (λ e. reach-here Quiet t 0 (record { whole = w; informed = i; empty = e }))

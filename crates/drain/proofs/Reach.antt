@@ -16,7 +16,7 @@ use Rattle.dispatcher.specs.Step.{codeOf, stepOf, runOf}
 
 -- a Deliver, Start, Done or Notice
 abbrev pub further : List ℕ → Bool
-further e = eqb (codeOf e) 3 || eqb (codeOf e) 4 || eqb (codeOf e) 5 || eqb (codeOf e) 7
+further e = eqb (codeOf e) 3 || (eqb (codeOf e) 4 || (eqb (codeOf e) 5 || eqb (codeOf e) 7))
 
 -- each event is one of these and is answered 0
 abbrev pub Accepted : Table → List (List ℕ) → Type 0

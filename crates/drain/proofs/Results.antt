@@ -16,7 +16,7 @@ use Rattle.table.specs.declared.Message.{Message}
 use Rattle.table.specs.declared.Table.{Table}
 use Rattle.table.specs.Views.{noMessage, bondAt, jobAt, nodeAt, toldAt, messageAt, flight, withJob, withNode}
 use Rattle.table.specs.Messages.{push, pull, send}
-use Rattle.table.specs.Parts.{priced, running, result, accept}
+use Rattle.table.specs.Parts.{priced, running, result, accept, RESULT}
 use Rattle.table.proofs.Views.{Sized, views, sized-node, node-same, node-other, node-messages, told-messages, job-messages, job-same, job-other, length-flight}
 use Rattle.table.proofs.Messages.{flight-push, sized-pull, message-flight}
 use Rattle.handlers.specs.Handlers.{onResult, handle}
@@ -40,7 +40,7 @@ pub record Finished (t : Table) (a : ℕ) (u : Table) : Type 0 where
   pub shut : jobAt u (nodeAt t a .«running_job») .state ≢ 1
   pub jobs : (j : ℕ) → j ≢ nodeAt t a .«running_job» → jobAt u j ≡ jobAt t j
 
-handle-result : (s : Table) (x : Message) → x .kind ≡ 9 → handle s x ≡ onResult s x
+handle-result : (s : Table) (x : Message) → x .kind ≡ RESULT → handle s x ≡ onResult s x
 unfolding handle
 handle-result s x e =
     let is : (c : ℕ) → eqb (x .kind) c ≡ eqb 9 c = λ c. ap (λ (k : ℕ). eqb k c) e in
@@ -113,7 +113,7 @@ module _ (t : Table) (a : ℕ) (q : Quiet t) (al : a < 16) (runs : nodeAt t a .�
   p-flight : flight (finished t a) ≡ y ∷ []
   p-flight = ap flight done ∙ flight-push r r-sized y (omega (arith, r-used)) ∙ ap (λ (l : List Message). l ++ y ∷ []) (flight-empty r r-used)
 
-  y-parts : (y .kind ≡ 9) × (y .job ≡ nodeAt t a .«running_job»)
+  y-parts : (y .kind ≡ RESULT) × (y .job ≡ nodeAt t a .«running_job»)
   unfolding y result
   y-parts = (refl, refl)
 

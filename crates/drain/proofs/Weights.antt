@@ -12,7 +12,7 @@ use Rattle.table.specs.declared.Message.{Message}
 use Rattle.table.specs.declared.Table.{Table}
 use Rattle.table.specs.Views.{jobAt, nodeAt, poolAt, toldAt, flight, withJob, withNode, withPool, enter}
 use Rattle.table.specs.Messages.{push, send, lowest}
-use Rattle.table.specs.Parts.{moved, placed, priced, reserve, release, waiting, reserves, returned, message, FISH, REQ, AUTH, DENIED, OBSOLETE, SCHEDULE, ACK, NOWORK}
+use Rattle.table.specs.Parts.{moved, placed, priced, reserve, release, waiting, reserves, returned, message, FISH, REQ, AUTH, DENIED, OBSOLETE, SCHEDULE, ACK, NOWORK, RESULT}
 use Rattle.table.proofs.Views.{views}
 use Rattle.table.proofs.Messages.{flight-push}
 use Rattle.handlers.specs.Handlers.{noWork, grant, onFish, reply, onReq, onAuth, onDenied, onObsolete, onSchedule, onAck, onNoWork, onResult, handle}
@@ -169,12 +169,12 @@ module _ (s : Table) (x : Message) (h : Hand s x) where
   unfolding weightOf
   lighter =
       by-kind (Lighter s x) s x (h .message .kind-least) (h .message .kind-most)
-      (λ e. less 4 1 (onFish s x) e (omega arith) fish)
-      (λ e. less 3 2 (onReq s x) e (omega arith) req)
-      (λ e. less 2 3 (onAuth s x) e (omega arith) auth)
-      (λ e. less 1 4 (onDenied s x) e (omega arith) denied)
-      (λ e. less 1 5 (onObsolete s x) e (omega arith) obsolete)
-      (λ e. less 1 6 (onSchedule s x) e (omega arith) schedule)
-      (λ e. less 0 7 (onAck s x) e (omega arith) ack)
-      (λ e. less 0 8 (onNoWork s x) e (omega arith) nowork)
-      (λ e. less 0 9 (onResult s x) e (omega arith) result)
+      (λ e. less 4 FISH (onFish s x) e (omega arith) fish)
+      (λ e. less 3 REQ (onReq s x) e (omega arith) req)
+      (λ e. less 2 AUTH (onAuth s x) e (omega arith) auth)
+      (λ e. less 1 DENIED (onDenied s x) e (omega arith) denied)
+      (λ e. less 1 OBSOLETE (onObsolete s x) e (omega arith) obsolete)
+      (λ e. less 1 SCHEDULE (onSchedule s x) e (omega arith) schedule)
+      (λ e. less 0 ACK (onAck s x) e (omega arith) ack)
+      (λ e. less 0 NOWORK (onNoWork s x) e (omega arith) nowork)
+      (λ e. less 0 RESULT (onResult s x) e (omega arith) result)

@@ -15,7 +15,7 @@ use table::Table;
 pub mod notice;
 
 // Job j is open, with replica number r, on the root, and enters the root's pool.
-pub fn open(t: Table, j: usize, r: u8) -> Table
+fn open(t: Table, j: usize, r: u8) -> Table
     requires { ⌜ j < 64 ⌝ }
     ensures { λ u. ⌜ u ≡ enter (withJob t j (opened r)) 0 j r ⌝ }
 {

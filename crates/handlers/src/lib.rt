@@ -59,7 +59,7 @@ fn grant(t: Table, b: u8, th: u8, j: usize) -> Table
     )
 }
 
-pub fn on_fish(t: Table, m: Message) -> Table
+fn on_fish(t: Table, m: Message) -> Table
     requires { ⌜ Room t ⌝ }
     requires { ⌜ Within m ⌝ }
     ensures { λ r. ⌜ r ≡ onFish t m ⌝ }
@@ -96,7 +96,7 @@ fn reply(t: Table, m: Message, kind: u8) -> Table
     )
 }
 
-pub fn on_req(t: Table, m: Message) -> Table
+fn on_req(t: Table, m: Message) -> Table
     requires { ⌜ Room t ⌝ }
     requires { ⌜ Within m ⌝ }
     ensures { λ r. ⌜ r ≡ onReq t m ⌝ }
@@ -140,7 +140,7 @@ fn released(t: Table, b: usize) -> Table
     u
 }
 
-pub fn on_auth(t: Table, m: Message) -> Table
+fn on_auth(t: Table, m: Message) -> Table
     requires { ⌜ Room t ⌝ }
     requires { ⌜ Within m ⌝ }
     ensures { λ r. ⌜ r ≡ onAuth t m ⌝ }
@@ -165,7 +165,7 @@ pub fn on_auth(t: Table, m: Message) -> Table
     t
 }
 
-pub fn on_denied(t: Table, m: Message) -> Table
+fn on_denied(t: Table, m: Message) -> Table
     requires { ⌜ Room t ⌝ }
     requires { ⌜ Within m ⌝ }
     ensures { λ r. ⌜ r ≡ onDenied t m ⌝ }
@@ -179,7 +179,7 @@ pub fn on_denied(t: Table, m: Message) -> Table
     t
 }
 
-pub fn on_obsolete(t: Table, m: Message) -> Table
+fn on_obsolete(t: Table, m: Message) -> Table
     requires { ⌜ Room t ⌝ }
     requires { ⌜ Within m ⌝ }
     ensures { λ r. ⌜ r ≡ onObsolete t m ⌝ }
@@ -193,7 +193,7 @@ pub fn on_obsolete(t: Table, m: Message) -> Table
     t
 }
 
-pub fn on_schedule(t: Table, m: Message) -> Table
+fn on_schedule(t: Table, m: Message) -> Table
     requires { ⌜ Room t ⌝ }
     requires { ⌜ Within m ⌝ }
     ensures { λ r. ⌜ r ≡ onSchedule t m ⌝ }
@@ -217,7 +217,7 @@ pub fn on_schedule(t: Table, m: Message) -> Table
     )
 }
 
-pub fn on_no_work(t: Table, m: Message) -> Table
+fn on_no_work(t: Table, m: Message) -> Table
     requires { ⌜ Within m ⌝ }
     ensures { λ r. ⌜ r ≡ onNoWork t m ⌝ }
 {
@@ -229,7 +229,7 @@ pub fn on_no_work(t: Table, m: Message) -> Table
     u
 }
 
-pub fn on_ack(t: Table, m: Message) -> Table
+fn on_ack(t: Table, m: Message) -> Table
     requires { ⌜ Within m ⌝ }
     ensures { λ r. ⌜ r ≡ onAck t m ⌝ }
 {
@@ -246,7 +246,7 @@ pub fn on_ack(t: Table, m: Message) -> Table
     t
 }
 
-pub fn on_result(t: Table, m: Message) -> Table
+fn on_result(t: Table, m: Message) -> Table
     requires { ⌜ Within m ⌝ }
     ensures { λ r. ⌜ r ≡ onResult t m ⌝ }
 {

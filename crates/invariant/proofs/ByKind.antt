@@ -25,20 +25,20 @@ module _ (P : Table → Type 0) (s : Table) (x : Message) (least : 1 ≤ x .kind
   pub by-kind : P (handle s x)
   unfolding handle
   by-kind =
-      byBool (eqb (x .kind) 1) (λ a. rw (a, handle) (fish (eqb-true _ _ a)))
-      (λ a1. byBool (eqb (x .kind) 2) (λ a. rw (a1, a, handle) (req (eqb-true _ _ a)))
-      (λ a2. byBool (eqb (x .kind) 3) (λ a. rw (a1, a2, a, handle) (auth (eqb-true _ _ a)))
-      (λ a3. byBool (eqb (x .kind) 4) (λ a. rw (a1, a2, a3, a, handle) (denied (eqb-true _ _ a)))
-      (λ a4. byBool (eqb (x .kind) 5) (λ a. rw (a1, a2, a3, a4, a, handle) (obsolete (eqb-true _ _ a)))
-      (λ a5. byBool (eqb (x .kind) 6) (λ a. rw (a1, a2, a3, a4, a5, a, handle) (schedule (eqb-true _ _ a)))
-      (λ a6. byBool (eqb (x .kind) 7) (λ a. rw (a1, a2, a3, a4, a5, a6, a, handle) (ack (eqb-true _ _ a)))
-      (λ a7. byBool (eqb (x .kind) 8) (λ a. rw (a1, a2, a3, a4, a5, a6, a7, a, handle) (nowork (eqb-true _ _ a)))
-      (λ a8. byBool (eqb (x .kind) 9) (λ a. rw (a1, a2, a3, a4, a5, a6, a7, a8, a, handle) (result (eqb-true _ _ a)))
+      byBool (eqb (x .kind) FISH) (λ a. rw (a, handle) (fish (eqb-true _ _ a)))
+      (λ a1. byBool (eqb (x .kind) REQ) (λ a. rw (a1, a, handle) (req (eqb-true _ _ a)))
+      (λ a2. byBool (eqb (x .kind) AUTH) (λ a. rw (a1, a2, a, handle) (auth (eqb-true _ _ a)))
+      (λ a3. byBool (eqb (x .kind) DENIED) (λ a. rw (a1, a2, a3, a, handle) (denied (eqb-true _ _ a)))
+      (λ a4. byBool (eqb (x .kind) OBSOLETE) (λ a. rw (a1, a2, a3, a4, a, handle) (obsolete (eqb-true _ _ a)))
+      (λ a5. byBool (eqb (x .kind) SCHEDULE) (λ a. rw (a1, a2, a3, a4, a5, a, handle) (schedule (eqb-true _ _ a)))
+      (λ a6. byBool (eqb (x .kind) ACK) (λ a. rw (a1, a2, a3, a4, a5, a6, a, handle) (ack (eqb-true _ _ a)))
+      (λ a7. byBool (eqb (x .kind) NOWORK) (λ a. rw (a1, a2, a3, a4, a5, a6, a7, a, handle) (nowork (eqb-true _ _ a)))
+      (λ a8. byBool (eqb (x .kind) RESULT) (λ a. rw (a1, a2, a3, a4, a5, a6, a7, a8, a, handle) (result (eqb-true _ _ a)))
       (λ a9. absurd (other a1 a2 a3 a4 a5 a6 a7 a8 a9))))))))))
     where
       up : (n : ℕ) → n ≤ x .kind → eqb (x .kind) n ≡ false → suc n ≤ x .kind
       up n l e = let d = eqb-false (x .kind) n e in omega arith
 
       -- there is no other kind
-      other : eqb (x .kind) 1 ≡ false → eqb (x .kind) 2 ≡ false → eqb (x .kind) 3 ≡ false → eqb (x .kind) 4 ≡ false → eqb (x .kind) 5 ≡ false → eqb (x .kind) 6 ≡ false → eqb (x .kind) 7 ≡ false → eqb (x .kind) 8 ≡ false → eqb (x .kind) 9 ≡ false → ⊥
+      other : eqb (x .kind) FISH ≡ false → eqb (x .kind) REQ ≡ false → eqb (x .kind) AUTH ≡ false → eqb (x .kind) DENIED ≡ false → eqb (x .kind) OBSOLETE ≡ false → eqb (x .kind) SCHEDULE ≡ false → eqb (x .kind) ACK ≡ false → eqb (x .kind) NOWORK ≡ false → eqb (x .kind) RESULT ≡ false → ⊥
       other a1 a2 a3 a4 a5 a6 a7 a8 a9 = omega (arith, up 9 (up 8 (up 7 (up 6 (up 5 (up 4 (up 3 (up 2 (up 1 least a1) a2) a3) a4) a5) a6) a7) a8) a9)

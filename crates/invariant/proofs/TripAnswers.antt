@@ -13,7 +13,7 @@ use Rattle.table.specs.declared.Message.{Message}
 use Rattle.table.specs.declared.Table.{Table}
 use Rattle.table.specs.Views.{jobAt, nodeAt, toldAt, flight, withNode}
 use Rattle.table.specs.Messages.{send}
-use Rattle.table.specs.Parts.{copyIs, reserves, release, returned, message}
+use Rattle.table.specs.Parts.{copyIs, reserves, release, returned, message, REQ, AUTH, DENIED, OBSOLETE, SCHEDULE, NOWORK}
 use Rattle.table.proofs.Views.{views, pool-node}
 use Rattle.handlers.specs.Handlers.{noWork, onAuth, onDenied, onObsolete}
 use Rattle.lists.proofs.Cases.{byBool, byEq, and-left, and-right}
@@ -39,7 +39,7 @@ reserves-same n k q u a b e =
     rw (and-left (not (eqb (n .«reserved_replica») 0)) _ e) (ap (λ (m : ℕ). eqb m a && eqb (n .«reserved_replica») b) (es .0) ∙ ap (λ (m : ℕ). eqb k a && eqb m b) (es .1))
 
 -- a SCHEDULE says what the AUTH before it said
-known-schedule : (s : Table) (x : Message) → x .kind ≡ 3 → Known s x → Known s (message 6 (x .to) (x .thief) (x .job) (x .replica) 0)
+known-schedule : (s : Table) (x : Message) → x .kind ≡ AUTH → Known s x → Known s (message SCHEDULE (x .to) (x .thief) (x .job) (x .replica) 0)
 unfolding message
 known-schedule s x k3 k = record {
   cap = k .cap;
@@ -47,7 +47,7 @@ known-schedule s x k3 k = record {
   ends = λ a c. record { auth = λ (e : _≡_ {A = ℕ} 6 3). absurd (omega arith); schedule = λ e. k .ends a c .auth k3; ack = λ (e : _≡_ {A = ℕ} 6 7). absurd (omega arith) };
 }
 
-about-own : (x : Message) → isAnswer (x .kind) ≡ true → eqb (x .kind) 2 ≡ false → about (x .to) (x .thief) (x .job) (x .replica) x ≡ true
+about-own : (x : Message) → isAnswer (x .kind) ≡ true → eqb (x .kind) REQ ≡ false → about (x .to) (x .thief) (x .job) (x .replica) x ≡ true
 unfolding copyIs
 about-own x ans nr =
     about-answer (x .to) (x .thief) (x .job) (x .replica) x nr ans
@@ -62,11 +62,11 @@ module _ (s : Table) (x : Message) (h : Hand s x) (c : Conserved s (x ∷ flight
   released = frame-node s s (frame-refl s (h .sized)) (x .to) (release (nodeAt s (x .to))) (h .message .to) (alive-release (nodeAt s (x .to)))
 
   -- ---- AUTH: the copy is on its way
-  auths : x .kind ≡ 3 → Matches true → Trips (send (withNode s (x .to) (release (nodeAt s (x .to)))) (message 6 (x .to) (x .thief) (x .job) (x .replica) 0))
+  auths : x .kind ≡ AUTH → Matches true → Trips (send (withNode s (x .to) (release (nodeAt s (x .to)))) (message SCHEDULE (x .to) (x .thief) (x .job) (x .replica) 0))
   auths k3 m =
       let n = nodeAt s (x .to) in
       let u = withNode s (x .to) (release n) in
-      let y = message 6 (x .to) (x .thief) (x .job) (x .replica) 0 in
+      let y = message SCHEDULE (x .to) (x .thief) (x .job) (x .replica) 0 in
       let tx : (j r : ℕ) → trip j r x ≡ eqb (x .job) j && eqb (x .replica) r = λ j r. unfold trip isTrip in rw k3 in
       let ty : (j r : ℕ) → trip j r y ≡ eqb (x .job) j && eqb (x .replica) r = λ j r. unfold trip isTrip message in refl in
       let t : Trip u (y ∷ flight s) =
@@ -74,13 +74,13 @@ module _ (s : Table) (x : Message) (h : Hand s x) (c : Conserved s (x ∷ flight
       (λ j a e. ty j (jobAt s j .replica) ∙ sym (tx j (jobAt s j .replica)))
       (λ j p a e o f.
       let r = jobAt s j .replica in
-      omega (arith, has-release s (x .to) p j r n (h .sized) (h .message .to) refl (reserves-same n (x .job) (x .replica) (x .thief) j r m ∙ sym (tx j r) ∙ f), ap ind (result-other 3 j p x k3 refl)))
-      (λ j p a e o f. absurd (true≢false (sym f ∙ ack-other 6 j (jobAt s j .replica) p y (unfold message in refl) refl)))
+      omega (arith, has-release s (x .to) p j r n (h .sized) (h .message .to) refl (reserves-same n (x .job) (x .replica) (x .thief) j r m ∙ sym (tx j r) ∙ f), ap ind (result-other AUTH j p x k3 refl)))
+      (λ j p a e o f. absurd (true≢false (sym f ∙ ack-other SCHEDULE j (jobAt s j .replica) p y (unfold message in refl) refl)))
       g in
       trip-sends s u y released (h .room) (h .facts .root) (unfold message in λ e. absurd (false≢true e)) t
 
   -- no match: the thief is dead
-  auth-idle : x .kind ≡ 3 → Matches false → Trips s
+  auth-idle : x .kind ≡ AUTH → Matches false → Trips s
   auth-idle k3 m =
       let w = h .message in
       trip-lost s x (flight s)
@@ -94,47 +94,47 @@ module _ (s : Table) (x : Message) (h : Hand s x) (c : Conserved s (x ∷ flight
       (λ z.
       let gone : nodeAt s (x .thief) .alive ≡ 0 = h .facts .told-dead (x .to) (x .thief) (w .to) (w .thief) z in
       omega (arith, dead-is s (x .thief) (λ f. omega arith), ap (dead s) (sym (ap (λ (b : Job). b .thief) job) ∙ en .auth k3 .1))))
-      (λ j p o. result-other 3 j p x k3 refl)
+      (λ j p o. result-other AUTH j p x k3 refl)
       g
 
-  pub trip-auth : x .kind ≡ 3 → Trips (onAuth s x)
+  pub trip-auth : x .kind ≡ AUTH → Trips (onAuth s x)
   unfolding onAuth
   trip-auth k3 = byBool (reserves (nodeAt s (x .to)) (x .job) (x .replica) (x .thief)) (λ m. rw (m, onAuth) (auths k3 m)) (λ m. rw (m, onAuth) (auth-idle k3 m))
 
   -- ---- DENIED: the copy returns to the pool
-  denies : x .kind ≡ 4 → Trips (noWork (returned s (x .to)) (x .to) (x .thief))
+  denies : x .kind ≡ DENIED → Trips (noWork (returned s (x .to)) (x .to) (x .thief))
   unfolding noWork
   denies k4 =
       let b = x .to in
       let u = returned s b in
-      let y = message 8 b (x .thief) 0 0 0 in
+      let y = message NOWORK b (x .thief) 0 0 0 in
       let f : Frame s u = frame-returned s b (h .sized) (h .message .to) in
       let hj : nodeAt s b .«reserved_job» < 64 = h .facts .machine b (h .message .to) .reserved-job in
       let hr = cap b (h .message .to) in
       let t : Trip u (y ∷ flight s) =
-      trip-swap s u x y (flight s) 4 8 k4 (unfold message in refl) (unfold isTrip in refl) (unfold isTrip in refl) refl refl (places s (h .facts)) (λ j. unfold returned in simp (views, entered)) (f .alive)
+      trip-swap s u x y (flight s) DENIED NOWORK k4 (unfold message in refl) (unfold isTrip in refl) (unfold isTrip in refl) refl refl (places s (h .facts)) (λ j. unfold returned in simp (views, entered)) (f .alive)
       (pools-returned s b (h .sized) (h .message .to) hj hr (g .pools))
-      (known-plain s y 8 (unfold message in refl) (unfold isTrip in refl) refl (unfold message in omega arith))
+      (known-plain s y NOWORK (unfold message in refl) (unfold isTrip in refl) refl (unfold message in omega arith))
       (λ j p a e o. omega (arith, has-returned s b (h .sized) (h .message .to) hj hr (g .pools) j p a)) g in
       trip-sends s u y f (h .room) (h .facts .root) (unfold message in λ e. absurd (false≢true e)) t
 
-  pub trip-denied : x .kind ≡ 4 → Trips (onDenied s x)
+  pub trip-denied : x .kind ≡ DENIED → Trips (onDenied s x)
   unfolding onDenied
   trip-denied k4 =
       byBool (reserves (nodeAt s (x .to)) (x .job) (x .replica) (x .thief))
       (λ m. rw (m, onDenied) (denies k4))
-      (λ m. rw (m, onDenied) (trip-passed s x (flight s) 4 k4 (unfold isTrip in refl) refl g))
+      (λ m. rw (m, onDenied) (trip-passed s x (flight s) DENIED k4 (unfold isTrip in refl) refl g))
 
   -- ---- OBSOLETE: the copy that goes is not the current one of an open job
-  discards : x .kind ≡ 5 → Matches true → Trips (noWork (withNode s (x .to) (release (nodeAt s (x .to)))) (x .to) (x .thief))
+  discards : x .kind ≡ OBSOLETE → Matches true → Trips (noWork (withNode s (x .to) (release (nodeAt s (x .to)))) (x .to) (x .thief))
   unfolding noWork
   discards k5 m =
       let n = nodeAt s (x .to) in
       let u = withNode s (x .to) (release n) in
-      let y = message 8 (x .to) (x .thief) 0 0 0 in
+      let y = message NOWORK (x .to) (x .thief) 0 0 0 in
       let t : Trip u (y ∷ flight s) =
-      trip-swap s u x y (flight s) 5 8 k5 (unfold message in refl) (unfold isTrip in refl) (unfold isTrip in refl) refl refl (places s (h .facts)) (λ j. simp views) (released .alive) (λ m j a e. simp pool-node (g .pools m j a e))
-      (known-plain s y 8 (unfold message in refl) (unfold isTrip in refl) refl (unfold message in omega arith))
+      trip-swap s u x y (flight s) OBSOLETE NOWORK k5 (unfold message in refl) (unfold isTrip in refl) (unfold isTrip in refl) refl refl (places s (h .facts)) (λ j. simp views) (released .alive) (λ m j a e. simp pool-node (g .pools m j a e))
+      (known-plain s y NOWORK (unfold message in refl) (unfold isTrip in refl) refl (unfold message in omega arith))
       (λ j p a e o.
       let r = jobAt s j .replica in
       byBool (reservesJob n j r)
@@ -148,9 +148,9 @@ module _ (s : Table) (x : Message) (h : Hand s x) (c : Conserved s (x ∷ flight
       g in
       trip-sends s u y released (h .room) (h .facts .root) (unfold message in λ e. absurd (false≢true e)) t
 
-  pub trip-obsolete : x .kind ≡ 5 → Trips (onObsolete s x)
+  pub trip-obsolete : x .kind ≡ OBSOLETE → Trips (onObsolete s x)
   unfolding onObsolete
   trip-obsolete k5 =
       byBool (reserves (nodeAt s (x .to)) (x .job) (x .replica) (x .thief))
       (λ m. rw (m, onObsolete) (discards k5 m))
-      (λ m. rw (m, onObsolete) (trip-passed s x (flight s) 5 k5 (unfold isTrip in refl) refl g))
+      (λ m. rw (m, onObsolete) (trip-passed s x (flight s) OBSOLETE k5 (unfold isTrip in refl) refl g))

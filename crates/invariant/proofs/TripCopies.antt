@@ -16,6 +16,7 @@ use Rattle.preservation.proofs.Sizes.{sized-enter}
 use Rattle.lists.proofs.Cases.{byBool, byEq, and-left, and-right, and-false}
 use Rattle.lists.proofs.Count.{ind}
 use Rattle.invariant.proofs.Frame.{node-enter}
+use Rattle.invariant.proofs.About.{alive-release, alive-waiting}
 use Rattle.invariant.proofs.State.{reservesJob, runsJob, has, dead}
 use Rattle.invariant.proofs.TripLaws.{dead-same}
 
@@ -44,40 +45,40 @@ pub has-node-other : (t : Table) (b p : ℕ) (v : Machine) (j r : ℕ) → p ≢
 unfolding has dead
 has-node-other t b p v j r e = simp (node-other t b p v e, pool-node)
 
+-- the new record has what the old one had
+pub has-record : (t : Table) (b p : ℕ) (v : Machine) (j r : ℕ) → Sized t → b < 16 → v .alive ≡ nodeAt t b .alive
+    → ind (reservesJob v j r) + ind (runsJob v j r) ≡ ind (reservesJob (nodeAt t b) j r) + ind (runsJob (nodeAt t b) j r) → has (withNode t b v) j r p ≡ has t j r p
+has-record t b p v j r z h e s =
+    byEq p b
+    (λ d. rw d (omega (arith, has-node t b v j r z h e)))
+    (λ d. has-node-other t b p v j r d)
+
 pub has-release : (t : Table) (b p j r : ℕ) (n : Machine) → Sized t → b < 16 → nodeAt t b ≡ n → reservesJob n j r ≡ false → has (withNode t b (release n)) j r p ≡ has t j r p
 has-release t b p j r n z h e f =
-    byEq p b
-    (λ d.
-    let none : reservesJob (release n) j r ≡ false = unfold reservesJob release in refl in
+    let res : reservesJob (release n) j r ≡ false = unfold reservesJob release in refl in
     let run : runsJob (release n) j r ≡ runsJob n j r = unfold runsJob release in refl in
-    let al : release n .alive ≡ nodeAt t b .alive = unfold release in rw e in
-    rw d (omega (arith, ap ind none, ap ind run, ap ind f, rw e at (has-node t b (release n) j r z h al))))
-    (λ d. has-node-other t b p (release n) j r d)
+    has-record t b p (release n) j r z h (rw e (alive-release n)) (rw e (omega (arith, ap ind res, ap ind run, ap ind f)))
 
 pub has-waiting : (t : Table) (b p j r w : ℕ) (n : Machine) → Sized t → b < 16 → nodeAt t b ≡ n → has (withNode t b (waiting n w)) j r p ≡ has t j r p
 has-waiting t b p j r w n z h e =
-    byEq p b
-    (λ d.
     let res : reservesJob (waiting n w) j r ≡ reservesJob n j r = unfold reservesJob waiting in refl in
     let run : runsJob (waiting n w) j r ≡ runsJob n j r = unfold runsJob waiting in refl in
-    let al : waiting n w .alive ≡ nodeAt t b .alive = unfold waiting in rw e in
-    rw d (omega (arith, ap ind res, ap ind run, rw e at (has-node t b (waiting n w) j r z h al))))
-    (λ d. has-node-other t b p (waiting n w) j r d)
+    has-record t b p (waiting n w) j r z h (rw e (alive-waiting n w)) (rw e (omega (arith, ap ind res, ap ind run)))
 
 -- ---- a place of a pool
 
-pub has-pool : (t : Table) (b j q r : ℕ) → Sized t → b < 16 → j < 64 → has (withPool t b j q) j r b + ind (eqb (poolAt t b j) r) ≡ has t j r b + ind (eqb q r)
+has-pool : (t : Table) (b j q r : ℕ) → Sized t → b < 16 → j < 64 → has (withPool t b j q) j r b + ind (eqb (poolAt t b j) r) ≡ has t j r b + ind (eqb q r)
 unfolding has dead
 has-pool t b j q r z h k =
     let n : nodeAt (withPool t b j q) b ≡ nodeAt t b = node-pool t b j q b in
     let p : poolAt (withPool t b j q) b j ≡ q = pool-same t z b j q h k in
     rw (n, p) (omega arith)
 
-pub has-pool-other-node : (t : Table) (b i q j r p : ℕ) → i < 64 → j < 64 → p ≢ b → has (withPool t b i q) j r p ≡ has t j r p
+has-pool-other-node : (t : Table) (b i q j r p : ℕ) → i < 64 → j < 64 → p ≢ b → has (withPool t b i q) j r p ≡ has t j r p
 unfolding has dead
 has-pool-other-node t b i q j r p h k e = simp (node-pool, pool-other-node)
 
-pub has-pool-other-job : (t : Table) (b i q j r p : ℕ) → i < 64 → j < 64 → j ≢ i → has (withPool t b i q) j r p ≡ has t j r p
+has-pool-other-job : (t : Table) (b i q j r p : ℕ) → i < 64 → j < 64 → j ≢ i → has (withPool t b i q) j r p ≡ has t j r p
 unfolding has dead
 has-pool-other-job t b i q j r p h k e = simp (node-pool, pool-other-job)
 
@@ -85,15 +86,21 @@ pub has-by-pool : (t : Table) (j r p : ℕ) → poolAt t p j ≡ r → 1 ≤ has
 unfolding has
 has-by-pool t j r p e = omega (arith, ap ind (eq-eqb (poolAt t p j) r e))
 
--- a place is emptied: the pools stay below the current replica numbers
-pub pools-emptied : (t : Table) (b i : ℕ) → Sized t → b < 16 → i < 64 → ((m j : ℕ) → m < 16 → j < 64 → poolAt t m j ≤ jobAt t j .replica)
-    → (m j : ℕ) → m < 16 → j < 64 → poolAt (withPool t b i 0) m j ≤ jobAt t j .replica
-pools-emptied t b i z h k pl m j a c =
+-- the pools stay below the current replica numbers
+abbrev pub Capped : Table → Type 0
+Capped t = (m j : ℕ) → m < 16 → j < 64 → poolAt t m j ≤ jobAt t j .replica
+
+pools-set : (t : Table) (b i q : ℕ) → Sized t → b < 16 → i < 64 → q ≤ jobAt t i .replica → Capped t → (m j : ℕ) → m < 16 → j < 64 → poolAt (withPool t b i q) m j ≤ jobAt t j .replica
+pools-set t b i q z h k c pl m j a d =
     byEq j i
     (λ e. byEq m b
-    (λ f. rw (e, f, pool-same t z b i 0 h k) (omega arith))
-    (λ f. rw (pool-other-node t b i m j 0 k c f) (pl m j a c)))
-    (λ e. rw (pool-other-job t b i m j 0 k c e) (pl m j a c))
+    (λ f. rw (e, f, pool-same t z b i q h k) c)
+    (λ f. rw (pool-other-node t b i m j q k d f) (pl m j a d)))
+    (λ e. rw (pool-other-job t b i m j q k d e) (pl m j a d))
+
+-- a place is emptied
+pub pools-emptied : (t : Table) (b i : ℕ) → Sized t → b < 16 → i < 64 → Capped t → (m j : ℕ) → m < 16 → j < 64 → poolAt (withPool t b i 0) m j ≤ jobAt t j .replica
+pools-emptied t b i z h k = pools-set t b i 0 z h k (omega arith)
 
 -- ---- "Adding a copy to a pool keeps the larger replica number."
 
@@ -114,15 +121,9 @@ has-enter t b i q j r p z h k l c =
     (λ d. omega (arith, has-pool-other-node t b i (max (poolAt t b i) q) j r p k l d)))
     (λ e. omega (arith, has-pool-other-job t b i (max (poolAt t b i) q) j r p k l e))
 
-pub pools-enter : (t : Table) (b i q : ℕ) → Sized t → b < 16 → i < 64 → q ≤ jobAt t i .replica → ((m j : ℕ) → m < 16 → j < 64 → poolAt t m j ≤ jobAt t j .replica)
-    → (m j : ℕ) → m < 16 → j < 64 → poolAt (enter t b i q) m j ≤ jobAt t j .replica
+pub pools-enter : (t : Table) (b i q : ℕ) → Sized t → b < 16 → i < 64 → q ≤ jobAt t i .replica → Capped t → (m j : ℕ) → m < 16 → j < 64 → poolAt (enter t b i q) m j ≤ jobAt t j .replica
 unfolding enter
-pools-enter t b i q z h k c pl m j a d =
-    byEq j i
-    (λ e. byEq m b
-    (λ f. rw (e, f, pool-same t z b i (max (poolAt t b i) q) h k) (omega (arith, pl b i h k)))
-    (λ f. rw (pool-other-node t b i m j (max (poolAt t b i) q) k d f) (pl m j a d)))
-    (λ e. rw (pool-other-job t b i m j (max (poolAt t b i) q) k d e) (pl m j a d))
+pools-enter t b i q z h k c pl = pools-set t b i (max (poolAt t b i) q) z h k (omega (arith, pl b i h k)) pl
 
 pub enter-pool : (t : Table) (b i q : ℕ) → Sized t → b < 16 → i < 64 → poolAt t b i ≤ q → poolAt (enter t b i q) b i ≡ q
 unfolding enter
@@ -137,8 +138,7 @@ reserves-eqs n j r e =
     (eqb-true _ _ (and-left (eqb (n .«reserved_job») j) (eqb (n .«reserved_replica») r) f), eqb-true _ _ (and-right (eqb (n .«reserved_job») j) (eqb (n .«reserved_replica») r) f))
 
 module _ (t : Table) (a : ℕ) (z : Sized t) (al : a < 16)
-    (hj : nodeAt t a .«reserved_job» < 64) (hr : nodeAt t a .«reserved_replica» ≤ jobAt t (nodeAt t a .«reserved_job») .replica)
-    (pools : (m j : ℕ) → m < 16 → j < 64 → poolAt t m j ≤ jobAt t j .replica) where
+    (hj : nodeAt t a .«reserved_job» < 64) (hr : nodeAt t a .«reserved_replica» ≤ jobAt t (nodeAt t a .«reserved_job») .replica) (pools : Capped t) where
   pub pools-returned : (m j : ℕ) → m < 16 → j < 64 → poolAt (returned t a) m j ≤ jobAt t j .replica
   unfolding returned
   pools-returned m j ml jl = rw pool-node (pools-enter t a (nodeAt t a .«reserved_job») (nodeAt t a .«reserved_replica») z al hj hr pools m j ml jl)

@@ -14,7 +14,7 @@ use Rattle.table.specs.declared.Message.{Message}
 use Rattle.table.specs.declared.Table.{Table}
 use Rattle.table.specs.Views.{noMessage, bondAt, jobAt, nodeAt, poolAt, flight, withNode, withPool}
 use Rattle.table.specs.Messages.{send}
-use Rattle.table.specs.Parts.{running, waiting, message, result}
+use Rattle.table.specs.Parts.{running, waiting, message, result, FISH, ACK, RESULT}
 use Rattle.table.proofs.Views.{views, pool-node, flight-node, flight-pool}
 use Rattle.events.specs.Events.{admitted, stolen, started, finished}
 use Rattle.lists.proofs.Cases.{byBool, byEq, and-left, and-right}
@@ -38,7 +38,7 @@ trip-admitted t a w al new =
 
 -- ---- a machine's record is replaced by one that is as alive, and a message is sent that counts for no move
 module _ (t : Table) (a : ℕ) (n : Machine) (y : Message) (c : ℕ) (w : Whole t) (al : a < 16) (room : t .«in_flight» < 128)
-    (na : n .alive ≡ nodeAt t a .alive) (ey : y .kind ≡ c) (tc : isTrip c ≡ false) (ac : eqb c 7 ≡ false) (home : toRoot (y .kind) ≡ true → y .to ≡ 0) (ky : Known t y)
+    (na : n .alive ≡ nodeAt t a .alive) (ey : y .kind ≡ c) (tc : isTrip c ≡ false) (ac : eqb c ACK ≡ false) (home : toRoot (y .kind) ≡ true → y .to ≡ 0) (ky : Known t y)
     (kept : (j : ℕ) → j < 64 → min 1 (has t j (jobAt t j .replica) a) ≤ has (withNode t a n) j (jobAt t j .replica) a + ind (resultFrom j a y)) where
   trip-sent : Trips (send (withNode t a n) y)
   trip-sent =
@@ -56,9 +56,9 @@ pub trip-stolen : (t : Table) (a b : ℕ) → Whole t → a < 16 → t .«in_fli
 unfolding stolen
 trip-stolen t a b w al room =
     let n = nodeAt t a in
-    let y = message 1 a b 0 0 0 in
-    trip-sent t a (waiting n (b + 1)) y 1 w al room (alive-waiting n (b + 1)) (unfold message in refl) (unfold isTrip in refl) refl (unfold message in λ e. absurd (false≢true e))
-    (known-plain t y 1 (unfold message in refl) (unfold isTrip in refl) refl (unfold message in omega arith))
+    let y = message FISH a b 0 0 0 in
+    trip-sent t a (waiting n (b + 1)) y FISH w al room (alive-waiting n (b + 1)) (unfold message in refl) (unfold isTrip in refl) refl (unfold message in λ e. absurd (false≢true e))
+    (known-plain t y FISH (unfold message in refl) (unfold isTrip in refl) refl (unfold message in omega arith))
     (λ j jl. omega (arith, has-waiting t a a j (jobAt t j .replica) (b + 1) n (w .sized) al refl))
 
 -- ---- Done: the running copy goes, and its RESULT is on its way
@@ -77,8 +77,8 @@ unfolding finished
 trip-finished t a w al room =
     let n = nodeAt t a in
     let y = result a (n .«running_job») (n .«running_replica») (priceBits (bondAt t (n .«running_job»))) in
-    trip-sent t a (running n 0 0) y 9 w al room (alive-running n 0 0) (unfold result in refl) (unfold isTrip in refl) refl (unfold result in λ e. refl)
-    (known-plain t y 9 (unfold result in refl) (unfold isTrip in refl) refl (unfold result in w .side .copies a al .running))
+    trip-sent t a (running n 0 0) y RESULT w al room (alive-running n 0 0) (unfold result in refl) (unfold isTrip in refl) refl (unfold result in λ e. refl)
+    (known-plain t y RESULT (unfold result in refl) (unfold isTrip in refl) refl (unfold result in w .side .copies a al .running))
     (λ j jl.
     let r = jobAt t j .replica in
     let res : reservesJob (running n 0 0) j r ≡ reservesJob n j r = unfold reservesJob running in refl in

@@ -2,8 +2,8 @@
 -- or is sent, or some are dropped.
 -- Assumes nothing.
 use mathlib.Core.Path.{_≡_, refl, sym, ap, _∙_}
-use mathlib.Core.Bool.{true, false, true≢false}
-use mathlib.Core.List.{List, [], _∷_, _++_}
+use mathlib.Core.Bool.{Bool, true, false, true≢false}
+use mathlib.Core.List.{List, _∷_}
 use Prim.Native.Nat.{ℕ, _+_, _≤_, _<_, min}
 use native.Mathlib.Omega.{arith}
 use lib.Dec.{eqb}
@@ -12,8 +12,9 @@ use Rattle.table.specs.declared.Job.{Job}
 use Rattle.table.specs.declared.Message.{Message}
 use Rattle.table.specs.declared.Table.{Table}
 use Rattle.table.specs.Views.{noMessage, jobAt, nodeAt, poolAt}
+use Rattle.table.specs.Parts.{AUTH, SCHEDULE, ACK, RESULT}
 use Rattle.lists.proofs.Cases.{byBool, byEq}
-use Rattle.lists.proofs.Count.{ind, count, count-append, Every, every-map, every-append}
+use Rattle.lists.proofs.Count.{ind, count, Every, every-map}
 use Rattle.invariant.proofs.State.{Trip, Known, Ends, trip, isTrip, ackFrom, resultFrom, dead, has, held}
 use Rattle.invariant.proofs.TripLaws.{dead-is, dead-same, trip-eqs, trip-kinds, trip-other, ack-other, ack-trip, acks-trips, result-other, known-job, known-plain, Places}
 
@@ -35,16 +36,15 @@ trip-frame t u l jb kn pl mo on mv ak = record {
   acked = simp jb ak;
 }
 
--- ---- the place of a message in the list does not matter
-
-pub trip-snoc : (t : Table) (x : Message) (l : List Message) → Trip t (x ∷ l) → Trip t (l ++ x ∷ [])
+-- the table is the same, and the lists count alike: the place of a message in the list does not matter
+pub trip-list : (t : Table) (k l : List Message) → Every (Known t) l → ((p : Message → Bool) → count p l ≡ count p k) → Trip t k → Trip t l
 unfolding held
-trip-snoc t x l i =
-    trip-frame t t (l ++ x ∷ []) (λ j. refl) (every-append (Known t) l x (i .known .1) (i .known .0)) (i .pools)
-    (λ j a b. omega (arith, count-append (trip j (jobAt t j .replica)) l (x ∷ []), i .moves j a b))
-    (λ j a b c. omega (arith, count-append (resultFrom j (jobAt t j .holder)) l (x ∷ []), i .on j a b c))
-    (λ j a b c. omega (arith, count-append (trip j (jobAt t j .replica)) l (x ∷ []), i .moved j a b c))
-    (λ j p a b c d. omega (arith, count-append (resultFrom j p) l (x ∷ []), i .acked j p a b c (omega (arith, count-append (ackFrom j (jobAt t j .replica) p) l (x ∷ [])))))
+trip-list t k l kn n i =
+    trip-frame t t l (λ j. refl) kn (i .pools)
+    (λ j a b. omega (arith, n (trip j (jobAt t j .replica)), i .moves j a b))
+    (λ j a b c. omega (arith, n (resultFrom j (jobAt t j .holder)), i .on j a b c))
+    (λ j a b c. omega (arith, n (trip j (jobAt t j .replica)), i .moved j a b c))
+    (λ j p a b c d. omega (arith, n (resultFrom j p), i .acked j p a b c (omega (arith, n (ackFrom j (jobAt t j .replica) p)))))
 
 -- ---- a message that goes: where it counted for a move, one end of the move is dead
 
@@ -61,14 +61,14 @@ trip-lost t x l h n i =
     (λ j p a b c d. omega (arith, i .acked j p a b c (omega arith), ap ind (n j p c)))
 
 -- it was of a kind that counts for nothing
-pub trip-passed : (t : Table) (x : Message) (l : List Message) (k : ℕ) → x .kind ≡ k → isTrip k ≡ false → eqb k 9 ≡ false → Trip t (x ∷ l) → Trip t l
+pub trip-passed : (t : Table) (x : Message) (l : List Message) (k : ℕ) → x .kind ≡ k → isTrip k ≡ false → eqb k RESULT ≡ false → Trip t (x ∷ l) → Trip t l
 trip-passed t x l k ex tk rk =
     trip-lost t x l
     (λ j a b e. absurd (true≢false (sym e ∙ trip-other k j (jobAt t j .replica) x ex tk)))
     (λ j p o. result-other k j p x ex rk)
 
 -- a message to a dead machine
-pub trip-dropped : (t : Table) (x : Message) (l : List Message) → (nodeAt t (x .to) .alive ≡ 1 → ⊥) → (x .kind ≡ 7 → ⊥) → (x .kind ≡ 9 → ⊥) → Trip t (x ∷ l) → Trip t l
+pub trip-dropped : (t : Table) (x : Message) (l : List Message) → (nodeAt t (x .to) .alive ≡ 1 → ⊥) → (x .kind ≡ ACK → ⊥) → (x .kind ≡ RESULT → ⊥) → Trip t (x ∷ l) → Trip t l
 trip-dropped t x l gone n7 n9 i =
     trip-lost t x l
     (λ j a b e.
@@ -76,12 +76,12 @@ trip-dropped t x l gone n7 n9 i =
     let job : jobAt t (x .job) ≡ jobAt t j = ap (jobAt t) (es .1) in
     let en : Ends t x = i .known .0 .ends (rw job b) (rw job (es .2)) in
     let to : dead t (x .to) ≡ 1 = dead-is t (x .to) gone in
-    byEq (x .kind) 3
+    byEq (x .kind) AUTH
     (λ f. omega (arith, to, ap (dead t) (sym (ap (λ (b : Job). b .holder) job) ∙ en .auth f .0)))
-    (λ n3. byEq (x .kind) 6
+    (λ n3. byEq (x .kind) SCHEDULE
     (λ f. omega (arith, to, ap (dead t) (sym (ap (λ (b : Job). b .thief) job) ∙ en .schedule f .1)))
     (λ n6. absurd (trip-kinds (x .kind) (es .0) n3 n6 n7))))
-    (λ j p o. result-other (x .kind) j p x refl (ne-eqb (x .kind) 9 n9))
+    (λ j p o. result-other (x .kind) j p x refl (ne-eqb (x .kind) RESULT n9))
     i
 
 -- ---- the empty message counts for nothing

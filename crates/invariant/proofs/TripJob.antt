@@ -99,7 +99,7 @@ module _ (t u : Table) (i : ℕ) (l : List Message) (re : jobAt t i .replica ≤
       kn
 
   -- its replica number is a new one
-  pub known-new : jobAt t i .replica < jobAt u i .replica → Every (λ x. x .job ≡ i → Known u x) l
+  known-new : jobAt t i .replica < jobAt u i .replica → Every (λ x. x .job ≡ i → Known u x) l
   known-new lt =
       every-map (Known t) (λ x. x .job ≡ i → Known u x) l
       (λ x k e.
@@ -111,7 +111,7 @@ pub known-others : (t : Table) (i : ℕ) (l : List Message) → Every (Known t) 
 known-others t i l kn = every-map (Known t) (λ x. x .job ≢ i → Known t x) l (λ x k e. k) kn
 
 -- no message has a replica number above the job's
-pub none-new : (t : Table) (i r : ℕ) (l : List Message) → jobAt t i .replica < r → Every (Known t) l → count (trip i r) l ≡ 0
+none-new : (t : Table) (i r : ℕ) (l : List Message) → jobAt t i .replica < r → Every (Known t) l → count (trip i r) l ≡ 0
 none-new t i r l lt kn =
     count-zero (trip i r) l
     (every-map (Known t) (λ x. trip i r x ≡ false) l

@@ -10,6 +10,7 @@ use borrow.Author.Tests.{eq-eqb, ne-eqb, eqb-true, eqb-false}
 use Rattle.table.specs.declared.Message.{Message}
 use Rattle.table.specs.declared.Table.{Table}
 use Rattle.table.specs.Views.{jobAt, nodeAt, poolAt}
+use Rattle.table.specs.Parts.{AUTH, OBSOLETE, SCHEDULE, ACK, RESULT}
 use Rattle.lists.proofs.Cases.{byBool, and-left, and-right}
 use Rattle.lists.proofs.Count.{ind, count, and-le, count-le}
 use Rattle.preservation.proofs.Facts.{Facts}
@@ -41,20 +42,20 @@ trip-eqs j r x e =
     let b = and-right (isTrip (x .kind)) (eqb (x .job) j && eqb (x .replica) r) e in
     (and-left (isTrip (x .kind)) _ e, eqb-true _ _ (and-left (eqb (x .job) j) (eqb (x .replica) r) b), eqb-true _ _ (and-right (eqb (x .job) j) (eqb (x .replica) r) b))
 
-pub trip-kinds : (k : ℕ) → isTrip k ≡ true → (k ≡ 3 → ⊥) → (k ≡ 6 → ⊥) → (k ≡ 7 → ⊥) → ⊥
+pub trip-kinds : (k : ℕ) → isTrip k ≡ true → (k ≡ AUTH → ⊥) → (k ≡ SCHEDULE → ⊥) → (k ≡ ACK → ⊥) → ⊥
 unfolding isTrip
-trip-kinds k h a b c = true≢false (sym h ∙ rw (ne-eqb k 3 a, ne-eqb k 6 b, ne-eqb k 7 c))
+trip-kinds k h a b c = true≢false (sym h ∙ rw (ne-eqb k AUTH a, ne-eqb k SCHEDULE b, ne-eqb k ACK c))
 
 -- a message of a kind that does not count
 pub trip-other : (k j r : ℕ) (x : Message) → x .kind ≡ k → isTrip k ≡ false → trip j r x ≡ false
 unfolding trip
 trip-other k j r x e h = rw (e, h)
 
-pub ack-other : (k j r p : ℕ) (x : Message) → x .kind ≡ k → eqb k 7 ≡ false → ackFrom j r p x ≡ false
+pub ack-other : (k j r p : ℕ) (x : Message) → x .kind ≡ k → eqb k ACK ≡ false → ackFrom j r p x ≡ false
 unfolding ackFrom
 ack-other k j r p x e h = rw (e, h)
 
-pub result-other : (k j p : ℕ) (x : Message) → x .kind ≡ k → eqb k 9 ≡ false → resultFrom j p x ≡ false
+pub result-other : (k j p : ℕ) (x : Message) → x .kind ≡ k → eqb k RESULT ≡ false → resultFrom j p x ≡ false
 unfolding resultFrom
 result-other k j p x e h = rw (e, h)
 
@@ -69,18 +70,18 @@ trip-not j r x h = and-no (isTrip (x .kind)) _ (rw (ne-eqb (x .job) j h))
 
 pub ack-not : (j r p : ℕ) (x : Message) → (x .job ≡ j → ⊥) → ackFrom j r p x ≡ false
 unfolding ackFrom
-ack-not j r p x h = and-no (eqb (x .kind) 7) _ (and-no (eqb (x .from) p) _ (rw (ne-eqb (x .job) j h)))
+ack-not j r p x h = and-no (eqb (x .kind) ACK) _ (and-no (eqb (x .from) p) _ (rw (ne-eqb (x .job) j h)))
 
 pub result-not : (j p : ℕ) (x : Message) → (x .job ≡ j → ⊥) → resultFrom j p x ≡ false
 unfolding resultFrom
-result-not j p x h = and-no (eqb (x .kind) 9) _ (and-no (eqb (x .from) p) _ (ne-eqb (x .job) j h))
+result-not j p x h = and-no (eqb (x .kind) RESULT) _ (and-no (eqb (x .from) p) _ (ne-eqb (x .job) j h))
 
 -- an ACK counts for the move
 pub ack-trip : (j r p : ℕ) (x : Message) → ind (ackFrom j r p x) ≤ ind (trip j r x)
 unfolding ackFrom trip isTrip
 ack-trip j r p x =
-    byBool (eqb (x .kind) 7)
-    (λ e. let k : x .kind ≡ 7 = eqb-true (x .kind) 7 e in rw k (and-le (eqb (x .from) p) (eqb (x .job) j && eqb (x .replica) r)))
+    byBool (eqb (x .kind) ACK)
+    (λ e. let k : x .kind ≡ ACK = eqb-true (x .kind) ACK e in rw k (and-le (eqb (x .from) p) (eqb (x .job) j && eqb (x .replica) r)))
     (λ e. rw e (omega arith))
 
 pub acks-trips : (j r p : ℕ) (l : List Message) → count (ackFrom j r p) l ≤ count (trip j r) l
@@ -104,14 +105,14 @@ not-trip : (k c : ℕ) → isTrip k ≡ false → isTrip c ≡ true → k ≡ c 
 not-trip k c a b e = true≢false (sym b ∙ ap isTrip (sym e) ∙ a)
 
 -- a message of another kind than AUTH, OBSOLETE, SCHEDULE and ACK says only that its replica number is not above the job's
-pub known-plain : (t : Table) (y : Message) (k : ℕ) → y .kind ≡ k → isTrip k ≡ false → eqb k 5 ≡ false → y .replica ≤ jobAt t (y .job) .replica → Known t y
+pub known-plain : (t : Table) (y : Message) (k : ℕ) → y .kind ≡ k → isTrip k ≡ false → eqb k OBSOLETE ≡ false → y .replica ≤ jobAt t (y .job) .replica → Known t y
 known-plain t y k ey tk ok c = record {
   cap = c;
-  old = λ e. absurd (eqb-false k 5 ok (sym ey ∙ e));
+  old = λ e. absurd (eqb-false k OBSOLETE ok (sym ey ∙ e));
   ends = λ a b. record {
-    auth = λ e. absurd (not-trip k 3 tk (unfold isTrip in refl) (sym ey ∙ e));
-    schedule = λ e. absurd (not-trip k 6 tk (unfold isTrip in refl) (sym ey ∙ e));
-    ack = λ e. absurd (not-trip k 7 tk (unfold isTrip in refl) (sym ey ∙ e));
+    auth = λ e. absurd (not-trip k AUTH tk (unfold isTrip in refl) (sym ey ∙ e));
+    schedule = λ e. absurd (not-trip k SCHEDULE tk (unfold isTrip in refl) (sym ey ∙ e));
+    ack = λ e. absurd (not-trip k ACK tk (unfold isTrip in refl) (sym ey ∙ e));
   };
 }
 

@@ -113,7 +113,7 @@ module _ (t : Table) (b : ℕ) (z : Sized t) (l : List Message) (g : Trip t l) w
   all-turns zero h = record { sized = z; later = λ k kl. refl; trip = g }
   all-turns (suc n) h = one n (turns n) (omega arith) (all-turns n (omega arith))
 
-  pub trip-reissue : Trip (reissue t b) l
+  trip-reissue : Trip (reissue t b) l
   unfolding reissue
   trip-reissue = all-turns 64 (omega arith) .trip
 

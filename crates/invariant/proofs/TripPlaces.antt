@@ -12,7 +12,7 @@ use Rattle.table.specs.declared.Job.{Job}
 use Rattle.table.specs.declared.Message.{Message}
 use Rattle.table.specs.declared.Table.{Table}
 use Rattle.table.specs.Views.{jobAt, toldAt, flight, withJob}
-use Rattle.table.specs.Parts.{moved, placed, priced, message}
+use Rattle.table.specs.Parts.{moved, placed, priced, message, REQ, AUTH, DENIED, OBSOLETE, ACK, RESULT}
 use Rattle.table.proofs.Views.{job-same, job-other, node-job, pool-job, flight-job}
 use Rattle.handlers.specs.Handlers.{reply, onReq, onAck, onResult}
 use Rattle.lists.proofs.Cases.{byBool, byEq, byAnd}
@@ -34,11 +34,11 @@ trip-own : (k r : ℕ) (x : Message) → x .kind ≡ k → isTrip k ≡ true →
 unfolding trip
 trip-own k r x e t h = rw (e, t, eq-eqb (x .job) (x .job) refl, eq-eqb (x .replica) r h)
 
-trip-sent : (f j q th r : ℕ) → q ≡ r → trip j r (message 3 0 f j q th) ≡ true
+trip-sent : (f j q th r : ℕ) → q ≡ r → trip j r (message AUTH 0 f j q th) ≡ true
 unfolding trip isTrip message
 trip-sent f j q th r e = rw (eq-eqb j j refl, eq-eqb q r e)
 
-ack-own : (r : ℕ) (x : Message) → x .kind ≡ 7 → x .replica ≡ r → ackFrom (x .job) r (x .from) x ≡ true
+ack-own : (r : ℕ) (x : Message) → x .kind ≡ ACK → x .replica ≡ r → ackFrom (x .job) r (x .from) x ≡ true
 unfolding ackFrom
 ack-own r x e h = rw (e, eq-eqb (x .from) (x .from) refl, eq-eqb (x .job) (x .job) refl, eq-eqb (x .replica) r h)
 
@@ -56,7 +56,7 @@ module _ (s : Table) (x : Message) (h : Hand s x) (g : Trip s (x ∷ flight s)) 
   same v = job-same s (h .sized) i v (h .message .job)
 
   -- ---- ACK of an open job's current copy: the job is on its sender
-  arrives : x .kind ≡ 7 → v₀ .state ≡ 1 → v₀ .replica ≡ x .replica → Trips (withJob s i (placed v₀ (x .from)))
+  arrives : x .kind ≡ ACK → v₀ .state ≡ 1 → v₀ .replica ≡ x .replica → Trips (withJob s i (placed v₀ (x .from)))
   unfolding held placed
   arrives k7 op cu =
       let l = flight s in
@@ -64,7 +64,7 @@ module _ (s : Table) (x : Message) (h : Hand s x) (g : Trip s (x ∷ flight s)) 
       let v = placed v₀ (x .from) in
       let u = withJob s i v in
       let w = h .message in
-      let tx : trip i r x ≡ true = trip-own 7 r x k7 (unfold isTrip in refl) (sym cu) in
+      let tx : trip i r x ≡ true = trip-own ACK r x k7 (unfold isTrip in refl) (sym cu) in
       let zero : count (trip i r) l ≡ 0 = omega (arith, ap ind tx, g .moves i (w .job) op, h .facts .job i (w .job) .moving) in
       let ax : ackFrom i r (x .from) x ≡ true = ack-own r x k7 (sym cu) in
       let hr : 1 ≤ held s (x ∷ l) i r (x .from) = g .acked i (x .from) (w .job) (w .from) op (omega (arith, ap ind ax)) in
@@ -72,17 +72,17 @@ module _ (s : Table) (x : Message) (h : Hand s x) (g : Trip s (x ∷ flight s)) 
       trip-job s u i v (x ∷ l) l (same v) (λ j e. job-other s i j v e) (node-job s i v) (λ m j a e. pool-job s i v m j)
       (known-still s u i l (rw (same v)) (rw (same v)) (g .known .1) (rw (same v) zero)) (known-others s i l (g .known .1))
       (λ a q e. omega (arith, ap ind (trip-not a q x (λ d. e (sym d)))))
-      (λ a p e. omega (arith, ap ind (result-other 7 a p x k7 refl)))
+      (λ a p e. omega (arith, ap ind (result-other ACK a p x k7 refl)))
       (λ a q p e. omega (arith, ap ind (ack-not a q p x (λ d. e (sym d)))))
       (λ m a. rw pool-job (g .pools m i a (w .job)))
       (λ o. omega arith)
-      (λ o c. omega (arith, hr, has-job s i v i r (x .from), ap ind (result-other 7 i (x .from) x k7 refl)))
+      (λ o c. omega (arith, hr, has-job s i v i r (x .from), ap ind (result-other ACK i (x .from) x k7 refl)))
       (λ o (c : _≡_ {A = ℕ} 0 1). absurd (omega arith))
       (λ p a o c. absurd (omega (arith, acks-trips i r p l)))
       g in
       simp flight-job t
 
-  pub trip-ack : x .kind ≡ 7 → Trips (onAck s x)
+  pub trip-ack : x .kind ≡ ACK → Trips (onAck s x)
   unfolding onAck
   trip-ack k7 =
       byAnd (eqb (v₀ .state) 1) (eqb (v₀ .replica) (x .replica))
@@ -93,10 +93,10 @@ module _ (s : Table) (x : Message) (h : Hand s x) (g : Trip s (x ∷ flight s)) 
       let job : jobAt s (x .job) ≡ jobAt s j = ap (jobAt s) (es .1) in
       let z : eqb (v₀ .state) 1 && eqb (v₀ .replica) (x .replica) ≡ true = rw (eq-eqb (v₀ .state) 1 (rw job o), eq-eqb (v₀ .replica) (x .replica) (rw job (sym (es .2)))) in
       absurd (true≢false (sym z ∙ c)))
-      (λ j p o. result-other 7 j p x k7 refl) g))
+      (λ j p o. result-other ACK j p x k7 refl) g))
 
   -- ---- RESULT: the job is open no more
-  prices : x .kind ≡ 9 → Trips (withJob s i (priced v₀ (x .price)))
+  prices : x .kind ≡ RESULT → Trips (withJob s i (priced v₀ (x .price)))
   unfolding priced
   prices k9 =
       let l = flight s in
@@ -108,9 +108,9 @@ module _ (s : Table) (x : Message) (h : Hand s x) (g : Trip s (x ∷ flight s)) 
       let t : Trip u l =
       trip-job s u i v (x ∷ l) l (same v) (λ j e. job-other s i j v e) (node-job s i v) (λ m j a e. pool-job s i v m j)
       (known-shut s u i l (omega arith) (g .known .1) (rw (same v) shut)) (known-others s i l (g .known .1))
-      (λ a q e. omega (arith, ap ind (trip-other 9 a q x k9 (unfold isTrip in refl))))
+      (λ a q e. omega (arith, ap ind (trip-other RESULT a q x k9 (unfold isTrip in refl))))
       (λ a p e. omega (arith, ap ind (result-not a p x (λ d. e (sym d)))))
-      (λ a q p e. omega (arith, ap ind (ack-other 9 a q p x k9 refl)))
+      (λ a q p e. omega (arith, ap ind (ack-other RESULT a q p x k9 refl)))
       (λ m a. rw pool-job (g .pools m i a (w .job)))
       (λ o. absurd (shut o))
       (λ o c. absurd (shut o))
@@ -119,18 +119,18 @@ module _ (s : Table) (x : Message) (h : Hand s x) (g : Trip s (x ∷ flight s)) 
       g in
       simp flight-job t
 
-  pub trip-result : x .kind ≡ 9 → Trips (onResult s x)
+  pub trip-result : x .kind ≡ RESULT → Trips (onResult s x)
   unfolding onResult
   trip-result k9 =
       byBool (eqb (v₀ .state) 1)
       (λ a. rw (a, onResult) (prices k9))
       (λ a. rw (a, onResult) (trip-lost s x (flight s)
-      (λ j b o e. absurd (true≢false (sym e ∙ trip-other 9 j (jobAt s j .replica) x k9 (unfold isTrip in refl))))
+      (λ j b o e. absurd (true≢false (sym e ∙ trip-other RESULT j (jobAt s j .replica) x k9 (unfold isTrip in refl))))
       (λ j p o. result-not j p x (λ e. eqb-false (v₀ .state) 1 a (rw e o)))
       g))
 
   -- ---- REQ
-  known-obsolete : eqb (v₀ .state) 2 || not (eqb (v₀ .replica) (x .replica)) ≡ true → Known s (message 5 0 (x .from) (x .job) (x .replica) (x .thief))
+  known-obsolete : eqb (v₀ .state) 2 || not (eqb (v₀ .replica) (x .replica)) ≡ true → Known s (message OBSOLETE 0 (x .from) (x .job) (x .replica) (x .thief))
   unfolding message
   known-obsolete a = record {
     cap = g .known .0 .cap;
@@ -141,7 +141,7 @@ module _ (s : Table) (x : Message) (h : Hand s x) (g : Trip s (x ∷ flight s)) 
     ends = λ b c. record { auth = λ (e : _≡_ {A = ℕ} 5 3). absurd (omega arith); schedule = λ (e : _≡_ {A = ℕ} 5 6). absurd (omega arith); ack = λ (e : _≡_ {A = ℕ} 5 7). absurd (omega arith) };
   }
 
-  known-auth : Known (withJob s i (moved v₀ (x .from) (x .thief))) (message 3 0 (x .from) (x .job) (x .replica) (x .thief))
+  known-auth : Known (withJob s i (moved v₀ (x .from) (x .thief))) (message AUTH 0 (x .from) (x .job) (x .replica) (x .thief))
   unfolding message moved
   known-auth =
       let jb = same (moved v₀ (x .from) (x .thief)) in
@@ -152,16 +152,16 @@ module _ (s : Table) (x : Message) (h : Hand s x) (g : Trip s (x ∷ flight s)) 
       }
 
   -- the root's answer leaves the table as it was
-  answers : (c : ℕ) → x .kind ≡ 2 → isTrip c ≡ false → eqb c 7 ≡ false → eqb c 9 ≡ false → eqb c 2 ≡ false → Known s (message c 0 (x .from) (x .job) (x .replica) (x .thief)) → Trips (reply s x c)
+  answers : (c : ℕ) → x .kind ≡ REQ → isTrip c ≡ false → eqb c ACK ≡ false → eqb c RESULT ≡ false → eqb c REQ ≡ false → Known s (message c 0 (x .from) (x .job) (x .replica) (x .thief)) → Trips (reply s x c)
   unfolding reply
   answers c k2 tc ac rc qc ky =
       let y = message c 0 (x .from) (x .job) (x .replica) (x .thief) in
       let ey : y .kind ≡ c = unfold message in refl in
       trip-sends s s y (frame-refl s (h .sized)) (h .room) (h .facts .root) (rw (ey, qc, ac, rc) (λ e. absurd (false≢true e)))
-      (trip-swap s s x y (flight s) 2 c k2 ey (unfold isTrip in refl) tc refl ac (places s (h .facts)) (λ j. refl) (λ k. refl) (g .pools) ky (λ j p a b o. omega arith) g)
+      (trip-swap s s x y (flight s) REQ c k2 ey (unfold isTrip in refl) tc refl ac (places s (h .facts)) (λ j. refl) (λ k. refl) (g .pools) ky (λ j p a b o. omega arith) g)
 
   -- the job moves, and AUTH is on its way
-  moves : x .kind ≡ 2 → v₀ .moving ≡ 0 → v₀ .replica ≡ x .replica → Trips (reply (withJob s i (moved v₀ (x .from) (x .thief))) x 3)
+  moves : x .kind ≡ REQ → v₀ .moving ≡ 0 → v₀ .replica ≡ x .replica → Trips (reply (withJob s i (moved v₀ (x .from) (x .thief))) x AUTH)
   unfolding reply held moved
   moves k2 still cu =
       let l = flight s in
@@ -169,8 +169,8 @@ module _ (s : Table) (x : Message) (h : Hand s x) (g : Trip s (x ∷ flight s)) 
       let v = moved v₀ (x .from) (x .thief) in
       let u = withJob s i v in
       let w = h .message in
-      let y = message 3 0 (x .from) (x .job) (x .replica) (x .thief) in
-      let ey : y .kind ≡ 3 = unfold message in refl in
+      let y = message AUTH 0 (x .from) (x .job) (x .replica) (x .thief) in
+      let ey : y .kind ≡ AUTH = unfold message in refl in
       let jy : y .job ≡ i = unfold message in refl in
       let my : trip i r y ≡ true = trip-sent (x .from) i (x .replica) (x .thief) r (sym cu) in
       let none : v₀ .state ≡ 1 → count (trip i r) l ≡ 0 = λ o. omega (arith, g .moves i (w .job) o) in
@@ -181,25 +181,25 @@ module _ (s : Table) (x : Message) (h : Hand s x) (g : Trip s (x ∷ flight s)) 
       let t : Trip u (y ∷ l) =
       trip-job s u i v (x ∷ l) (y ∷ l) (same v) (λ j e. job-other s i j v e) (node-job s i v) (λ m j a e. pool-job s i v m j)
       ((λ e. known-auth), known) ((λ e. absurd (e jy)), known-others s i l (g .known .1))
-      (λ a q e. omega (arith, ap ind (trip-other 2 a q x k2 (unfold isTrip in refl)), ap ind (trip-not a q y (λ d. e (sym d ∙ jy)))))
-      (λ a p e. omega (arith, ap ind (result-other 2 a p x k2 refl), ap ind (result-other 3 a p y ey refl)))
-      (λ a q p e. omega (arith, ap ind (ack-other 2 a q p x k2 refl), ap ind (ack-other 3 a q p y ey refl)))
+      (λ a q e. omega (arith, ap ind (trip-other REQ a q x k2 (unfold isTrip in refl)), ap ind (trip-not a q y (λ d. e (sym d ∙ jy)))))
+      (λ a p e. omega (arith, ap ind (result-other REQ a p x k2 refl), ap ind (result-other AUTH a p y ey refl)))
+      (λ a q p e. omega (arith, ap ind (ack-other REQ a q p x k2 refl), ap ind (ack-other AUTH a q p y ey refl)))
       (λ m a. rw pool-job (g .pools m i a (w .job)))
       (λ o. omega (arith, none o, ap ind my))
       (λ o (c : _≡_ {A = ℕ} 1 0). absurd (omega arith))
       (λ o c. omega (arith, ap ind my))
-      (λ p a o c. absurd (omega (arith, none o, acks-trips i r p l, ap ind (ack-other 3 i r p y ey refl))))
+      (λ p a o c. absurd (omega (arith, none o, acks-trips i r p l, ap ind (ack-other AUTH i r p y ey refl))))
       g in
       trip-sends s u y (frame-job s s (frame-refl s (h .sized)) i v) (h .room) (h .facts .root) (rw ey (λ e. absurd (false≢true e))) t
 
-  pub trip-req : x .kind ≡ 2 → Trips (onReq s x)
+  pub trip-req : x .kind ≡ REQ → Trips (onReq s x)
   unfolding onReq
   trip-req k2 =
       byBool (eqb (v₀ .state) 2 || not (eqb (v₀ .replica) (x .replica)))
-      (λ a. rw (a, onReq) (answers 5 k2 (unfold isTrip in refl) refl refl refl (known-obsolete a)))
+      (λ a. rw (a, onReq) (answers OBSOLETE k2 (unfold isTrip in refl) refl refl refl (known-obsolete a)))
       (λ a. byBool (not (eqb (toldAt s 0 (x .thief)) 0) || not (eqb (v₀ .moving) 0))
-      (λ b. rw (a, b, onReq) (answers 4 k2 (unfold isTrip in refl) refl refl refl
-      (known-plain s (message 4 0 (x .from) (x .job) (x .replica) (x .thief)) 4 (unfold message in refl) (unfold isTrip in refl) refl (unfold message in g .known .0 .cap))))
+      (λ b. rw (a, b, onReq) (answers DENIED k2 (unfold isTrip in refl) refl refl refl
+      (known-plain s (message DENIED 0 (x .from) (x .job) (x .replica) (x .thief)) 4 (unfold message in refl) (unfold isTrip in refl) refl (unfold message in g .known .0 .cap))))
       (λ b. rw (a, b, onReq) (moves k2
       (eqb-true _ _ (not-false _ (or-right (not (eqb (toldAt s 0 (x .thief)) 0)) _ b)))
       (eqb-true _ _ (not-false _ (or-right (eqb (v₀ .state) 2) _ a))))))

@@ -11,7 +11,7 @@ use Rattle.table.specs.declared.Message.{Message}
 use Rattle.table.specs.declared.Table.{Table}
 use Rattle.table.specs.Views.{jobAt, nodeAt, poolAt, flight, withNode, withPool, enter}
 use Rattle.table.specs.Messages.{lowest}
-use Rattle.table.specs.Parts.{reserve, waiting, message}
+use Rattle.table.specs.Parts.{reserve, waiting, message, FISH, REQ, SCHEDULE, ACK, NOWORK}
 use Rattle.table.proofs.Views.{Sized, views, pool-node, flight-node}
 use Rattle.handlers.specs.Handlers.{noWork, grant, onFish, onSchedule, onNoWork}
 use Rattle.preservation.proofs.Sizes.{sized-enter}
@@ -27,7 +27,7 @@ use Rattle.invariant.proofs.TripCopies.{has-waiting, has-by-pool, has-e
 use Rattle.invariant.proofs.TripAnswers.{Trips}
 
 -- an ACK says what the SCHEDULE before it said
-known-ack : (s : Table) (x : Message) → x .kind ≡ 6 → Known s x → Known s (message 7 (x .to) 0 (x .job) (x .replica) 0)
+known-ack : (s : Table) (x : Message) → x .kind ≡ SCHEDULE → Known s x → Known s (message ACK (x .to) 0 (x .job) (x .replica) 0)
 unfolding message
 known-ack s x k6 k = record {
   cap = k .cap;
@@ -35,7 +35,7 @@ known-ack s x k6 k = record {
   ends = λ a c. record { auth = λ (e : _≡_ {A = ℕ} 7 3). absurd (omega arith); schedule = λ (e : _≡_ {A = ℕ} 7 6). absurd (omega arith); ack = λ e. k .ends a c .schedule k6 .1 };
 }
 
-ack-eqs : (j r p b i q : ℕ) → ackFrom j r p (message 7 b 0 i q 0) ≡ true → (b ≡ p) × (i ≡ j) × (q ≡ r)
+ack-eqs : (j r p b i q : ℕ) → ackFrom j r p (message ACK b 0 i q 0) ≡ true → (b ≡ p) × (i ≡ j) × (q ≡ r)
 unfolding ackFrom message
 ack-eqs j r p b i q e =
     let f = and-right (eqb b p) (eqb i j && eqb q r) e in
@@ -43,7 +43,7 @@ ack-eqs j r p b i q e =
 
 module _ (s : Table) (x : Message) (h : Hand s x) (g : Trip s (x ∷ flight s)) where
   -- ---- FISH: from the pool to the reserved copy
-  grants : (i : ℕ) → x .kind ≡ 1 → i < 64 → nodeAt s (x .to) .«reserved_replica» ≡ 0 → Trips (grant s (x .to) (x .from) i)
+  grants : (i : ℕ) → x .kind ≡ FISH → i < 64 → nodeAt s (x .to) .«reserved_replica» ≡ 0 → Trips (grant s (x .to) (x .from) i)
   unfolding grant
   grants i k1 il free =
       let b = x .to in
@@ -52,14 +52,14 @@ module _ (s : Table) (x : Message) (h : Hand s x) (g : Trip s (x ∷ flight s)) 
       let q = withPool s b i 0 in
       let v = reserve n i r₀ (x .from) in
       let u = withNode q b v in
-      let y = message 2 b 0 i r₀ (x .from) in
+      let y = message REQ b 0 i r₀ (x .from) in
       let w = h .message in
       let va : v .alive ≡ n .alive = alive-reserve n i r₀ (x .from) in
       let f : Frame s u = frame-node s q (frame-pool s s (frame-refl s (h .sized)) b i 0) b v (w .to) va in
       let t : Trip u (y ∷ flight s) =
-      trip-swap s u x y (flight s) 1 2 k1 (unfold message in refl) (unfold isTrip in refl) (unfold isTrip in refl) refl refl (places s (h .facts)) (λ j. simp views) (f .alive)
+      trip-swap s u x y (flight s) FISH REQ k1 (unfold message in refl) (unfold isTrip in refl) (unfold isTrip in refl) refl refl (places s (h .facts)) (λ j. simp views) (f .alive)
       (λ m j a c. rw pool-node (pools-emptied s b i (h .sized) (w .to) il (g .pools) m j a c))
-      (known-plain s y 2 (unfold message in refl) (unfold isTrip in refl) refl (unfold message in g .pools b i (w .to) il))
+      (known-plain s y REQ (unfold message in refl) (unfold isTrip in refl) refl (unfold message in g .pools b i (w .to) il))
       (λ j p a c o.
       let r = jobAt s j .replica in
       let r1 : 1 ≤ r = h .facts .job j a .some (λ e. omega arith) in
@@ -67,15 +67,15 @@ module _ (s : Table) (x : Message) (h : Hand s x) (g : Trip s (x ∷ flight s)) 
       g in
       trip-sends s u y f (h .room) (h .facts .root) (unfold message in λ e. refl) t
 
-  fish-none : x .kind ≡ 1 → Trips (noWork s (x .to) (x .from))
+  fish-none : x .kind ≡ FISH → Trips (noWork s (x .to) (x .from))
   unfolding noWork
   fish-none k1 =
-      let y = message 8 (x .to) (x .from) 0 0 0 in
+      let y = message NOWORK (x .to) (x .from) 0 0 0 in
       trip-sends s s y (frame-refl s (h .sized)) (h .room) (h .facts .root) (unfold message in λ e. absurd (false≢true e))
-      (trip-swap s s x y (flight s) 1 8 k1 (unfold message in refl) (unfold isTrip in refl) (unfold isTrip in refl) refl refl (places s (h .facts)) (λ j. refl) (λ k. refl) (g .pools)
-      (known-plain s y 8 (unfold message in refl) (unfold isTrip in refl) refl (unfold message in omega arith)) (λ j p a c o. omega arith) g)
+      (trip-swap s s x y (flight s) FISH NOWORK k1 (unfold message in refl) (unfold isTrip in refl) (unfold isTrip in refl) refl refl (places s (h .facts)) (λ j. refl) (λ k. refl) (g .pools)
+      (known-plain s y NOWORK (unfold message in refl) (unfold isTrip in refl) refl (unfold message in omega arith)) (λ j p a c o. omega arith) g)
 
-  pub trip-fish : x .kind ≡ 1 → Trips (onFish s x)
+  pub trip-fish : x .kind ≡ FISH → Trips (onFish s x)
   unfolding onFish
   trip-fish k1 =
       byBool (not (eqb (nodeAt s (x .to) .«reserved_replica») 0))
@@ -85,14 +85,14 @@ module _ (s : Table) (x : Message) (h : Hand s x) (g : Trip s (x ∷ flight s)) 
       (λ e. rw (a, e, onFish) (grants (lowest s (x .to)) k1 (leb-false 64 (lowest s (x .to)) e) (eqb-true (nodeAt s (x .to) .«reserved_replica») 0 (not-false (eqb (nodeAt s (x .to) .«reserved_replica») 0) a)))))
 
   -- ---- SCHEDULE: the copy enters the pool, and its ACK is on its way
-  pub trip-schedule : x .kind ≡ 6 → Trips (onSchedule s x)
+  pub trip-schedule : x .kind ≡ SCHEDULE → Trips (onSchedule s x)
   unfolding onSchedule
   trip-schedule k6 =
       let b = x .to in
       let n = nodeAt s b in
       let q = enter s b (x .job) (x .replica) in
       let u = withNode q b (waiting n 0) in
-      let y = message 7 b 0 (x .job) (x .replica) 0 in
+      let y = message ACK b 0 (x .job) (x .replica) 0 in
       let w = h .message in
       let k = g .known .0 in
       let qz : Sized q = sized-enter s b (x .job) (x .replica) (h .sized) in
@@ -106,7 +106,7 @@ module _ (s : Table) (x : Message) (h : Hand s x) (g : Trip s (x ∷ flight s)) 
       (λ j a c. ty j (jobAt s j .replica) ∙ sym (tx j (jobAt s j .replica)))
       (λ j p a c o e.
       let r = jobAt s j .replica in
-      omega (arith, has-enter s b (x .job) (x .replica) j r p (h .sized) (w .to) (w .job) a (λ f. rw f (k .cap)), has-waiting q b p j r 0 n qz (w .to) (node-enter s b (x .job) (x .replica) b), ap ind (result-other 6 j p x k6 refl)))
+      omega (arith, has-enter s b (x .job) (x .replica) j r p (h .sized) (w .to) (w .job) a (λ f. rw f (k .cap)), has-waiting q b p j r 0 n qz (w .to) (node-enter s b (x .job) (x .replica) b), ap ind (result-other SCHEDULE j p x k6 refl)))
       (λ j p a c o e.
       let r = jobAt s j .replica in
       let es = ack-eqs j r p b (x .job) (x .replica) e in
@@ -117,7 +117,7 @@ module _ (s : Table) (x : Message) (h : Hand s x) (g : Trip s (x ∷ flight s)) 
       trip-sends s u y f (h .room) (h .facts .root) (unfold message in λ e. refl) t
 
   -- ---- NOWORK
-  pub trip-nowork : x .kind ≡ 8 → Trips (onNoWork s x)
+  pub trip-nowork : x .kind ≡ NOWORK → Trips (onNoWork s x)
   unfolding onNoWork
   trip-nowork k8 =
       let b = x .to in
@@ -127,4 +127,4 @@ module _ (s : Table) (x : Message) (h : Hand s x) (g : Trip s (x ∷ flight s)) 
       simp flight-node
       (trip-table s u (flight s) (places s (h .facts)) (λ j. simp views) (f .alive) (λ m j a c. rw pool-node (g .pools m j a c))
       (λ j p a c o. omega (arith, has-waiting s b p j (jobAt s j .replica) 0 n (h .sized) (h .message .to) refl))
-      (trip-passed s x (flight s) 8 k8 (unfold isTrip in refl) refl g))
+      (trip-passed s x (flight s) NOWORK k8 (unfold isTrip in refl) refl g))

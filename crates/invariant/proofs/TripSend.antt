@@ -3,7 +3,7 @@
 -- Assumes nothing.
 use mathlib.Core.Path.{_≡_, refl, sym, ap, _∙_}
 use mathlib.Core.Bool.{true, false, true≢false}
-use mathlib.Core.List.{List, _∷_}
+use mathlib.Core.List.{List, [], _∷_, _++_}
 use Prim.Native.Nat.{ℕ, _+_, _≤_, _<_, min}
 use native.Mathlib.Omega.{arith}
 use lib.Dec.{eqb}
@@ -11,15 +11,16 @@ use Rattle.table.specs.declared.Message.{Message}
 use Rattle.table.specs.declared.Table.{Table}
 use Rattle.table.specs.Views.{noMessage, jobAt, nodeAt, poolAt, messageAt, flight, withMessages}
 use Rattle.table.specs.Messages.{pull, send}
+use Rattle.table.specs.Parts.{ACK, RESULT}
 use Rattle.table.proofs.Views.{Sized, views}
 use Rattle.elements.specs.Elements.{toRoot}
 use Rattle.lists.specs.Scan.{without}
-use Rattle.lists.proofs.Count.{ind}
+use Rattle.lists.proofs.Count.{ind, count-append, every-append}
 use Rattle.invariant.proofs.Flight.{sends, takes, count-taken, every-taken}
 use Rattle.invariant.proofs.Frame.{Frame}
 use Rattle.invariant.proofs.State.{Trip, Known, trip, isTrip, ackFrom, resultFrom, dead, has, held}
 use Rattle.invariant.proofs.TripLaws.{trip-other, ack-other, result-other, known-plain, Places}
-use Rattle.invariant.proofs.TripFrame.{trip-frame, trip-snoc, trip-dropped, trip-passed, trip-nothing, trip-step}
+use Rattle.invariant.proofs.TripFrame.{trip-frame, trip-list, trip-dropped, trip-passed, trip-nothing, trip-step}
 
 -- ---- a table with the same views
 
@@ -36,7 +37,8 @@ trip-apart t n k l i = trip-same t (withMessages t n k) (λ j. simp views) (λ m
 pub trip-sends : (s u : Table) (y : Message) → Frame s u → s .«in_flight» < 128 → nodeAt s 0 .alive ≡ 1 → (toRoot (y .kind) ≡ true → y .to ≡ 0)
     → Trip u (y ∷ flight s) → Trip (send u y) (flight (send u y))
 trip-sends s u y f room root home i =
-    sends Trip trip-apart u y (f .sized) (rw (f .used) room) (trip-snoc u y (flight u))
+    sends Trip trip-apart u y (f .sized) (rw (f .used) room)
+    (λ t. trip-list u (y ∷ flight u) (flight u ++ y ∷ []) (every-append (Known u) (flight u) y (t .known .1) (t .known .0)) (λ p. omega (arith, count-append p (flight u) (y ∷ []))) t)
     (λ gone t.
     let away : toRoot (y .kind) ≡ true → ⊥ = λ r. gone (rw (home r) (f .alive 0 ∙ root)) in
     trip-dropped u y (flight u) gone (λ e. away (rw e)) (λ e. away (rw e)) t)
@@ -45,19 +47,12 @@ trip-sends s u y f room root home i =
 -- ---- the message in slot k is taken off
 
 pub trip-takes : (t : Table) (k : ℕ) → Sized t → k < t .«in_flight» → Trip t (flight t) → Trip (pull t k) (messageAt t k ∷ flight (pull t k))
-unfolding held
 trip-takes t k z h i =
-    let n = count-taken t k z h in
-    takes t k z h Trip trip-apart
-    (trip-frame t t (messageAt t k ∷ without k (flight t)) (λ j. refl) (every-taken t k z h (Known t) (i .known)) (i .pools)
-    (λ j a b. omega (arith, n (trip j (jobAt t j .replica)), i .moves j a b))
-    (λ j a b c. omega (arith, n (resultFrom j (jobAt t j .holder)), i .on j a b c))
-    (λ j a b c. omega (arith, n (trip j (jobAt t j .replica)), i .moved j a b c))
-    (λ j p a b c d. omega (arith, n (resultFrom j p), i .acked j p a b c (omega (arith, n (ackFrom j (jobAt t j .replica) p))))))
+    takes t k z h Trip trip-apart (trip-list t (flight t) (messageAt t k ∷ without k (flight t)) (every-taken t k z h (Known t) (i .known)) (count-taken t k z h) i)
 
 -- ---- a message takes the place of another, and neither counts for a move
 
-pub trip-swap : (t u : Table) (x y : Message) (l : List Message) (k c : ℕ) → x .kind ≡ k → y .kind ≡ c → isTrip k ≡ false → isTrip c ≡ false → eqb k 9 ≡ false → eqb c 7 ≡ false
+pub trip-swap : (t u : Table) (x y : Message) (l : List Message) (k c : ℕ) → x .kind ≡ k → y .kind ≡ c → isTrip k ≡ false → isTrip c ≡ false → eqb k RESULT ≡ false → eqb c ACK ≡ false
     → Places t
     → ((j : ℕ) → jobAt u j ≡ jobAt t j)
     → ((k : ℕ) → nodeAt u k .alive ≡ nodeAt t k .alive)

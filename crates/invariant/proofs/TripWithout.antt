@@ -13,6 +13,7 @@ use Rattle.table.specs.declared.Machine.{Machine}
 use Rattle.table.specs.declared.Message.{Message}
 use Rattle.table.specs.declared.Table.{Table}
 use Rattle.table.specs.Views.{jobAt, nodeAt, poolAt, flight}
+use Rattle.table.specs.Parts.{RESULT}
 use Rattle.preservation.proofs.Facts.{MessageFacts}
 use Rattle.lists.specs.Scan.{keep}
 use Rattle.lists.proofs.Cases.{byEq, and-left, and-right}
@@ -53,8 +54,8 @@ module _ (t u : Table) (d : ℕ) (q : Message → Bool) (w : Whole t) (nz : d �
   results j p np =
       counts (resultFrom j p)
       (λ x k f s e.
-      let k9 : x .kind ≡ 9 = eqb-true (x .kind) 9 (and-left (eqb (x .kind) 9) (eqb (x .from) p && eqb (x .job) j) e) in
-      let fr : x .from ≡ p = eqb-true (x .from) p (and-left (eqb (x .from) p) (eqb (x .job) j) (and-right (eqb (x .kind) 9) (eqb (x .from) p && eqb (x .job) j) e)) in
+      let k9 : x .kind ≡ RESULT = eqb-true (x .kind) RESULT (and-left (eqb (x .kind) RESULT) (eqb (x .from) p && eqb (x .job) j) e) in
+      let fr : x .from ≡ p = eqb-true (x .from) p (and-left (eqb (x .from) p) (eqb (x .job) j) (and-right (eqb (x .kind) RESULT) (eqb (x .from) p && eqb (x .job) j) e)) in
       ((λ z. np (sym fr ∙ z)), (λ z. nz (sym z ∙ f .root (rw k9)))))
 
   held-kept : (j r p : ℕ) → j < 64 → 1 ≤ held t (flight t) j r p → 1 ≤ held u l j r p

@@ -10,8 +10,9 @@ use native.Mathlib.Numerals.{add-one}
 use native.Mathlib.Omega.{arith}
 use borrow.Author.Tests.{lt-ltb, le-ltb}
 use lib.Dec.{ltb}
-use lib.ListN.{length, getD, take, drop, set, replicate, length-take, length-append, length-replicate, length-drop, take-append-drop, drop-of-length-le}
-use lib.Seq.{take-suc, drop-cons, set-append-seam, length-take-le, getD-append-add, getD-drop, take-at, set-at, append-snoc, take-all}
+use lib.ListN.{length, getD, take, drop, set, replicate, length-take, length-append, length-replicate, length-drop, take-append-drop, drop-of-length-le, List·getD-append, getD-replicate}
+use lib.Seq.{take-suc, drop-cons, set-append-seam, length-take-le, getD-append-add, getD-at, getD-drop, take-at, set-at, append-snoc, take-all}
+use Rattle.lists.proofs.Cases.{byEq}
 use Rattle.lists.specs.Scan.{all, least, first, keep, padTo, without, upTo, listOf, countTo}
 
 module _ (p : ℕ → Bool) where
@@ -217,7 +218,7 @@ module _ {A : Type 0} (f : ℕ → A → A) (x : A) where
 
 -- A loop that fills the first of n slots with f 0, f 1, ..
 module _ {A : Type 0} (f : ℕ → A) (n : ℕ) (d : A) where
-  length-list : (i : ℕ) → length (listOf f i) ≡ i
+  pub length-list : (i : ℕ) → length (listOf f i) ≡ i
   unfolding listOf
   length-list zero = refl
   length-list (suc i) = length-append (listOf f i) (f i ∷ []) ∙ ap (λ (k : ℕ). k + 1) (length-list i) ∙ add-one i
@@ -237,6 +238,29 @@ module _ {A : Type 0} (f : ℕ → A) (n : ℕ) (d : A) where
 
   pub list-end : (m i : ℕ) (out : List A) → m ≤ i → i ≤ m → out ≡ padTo n d (listOf f i) → out ≡ padTo n d (listOf f m)
   list-end m i out a b e = e ∙ ap (λ (k : ℕ). padTo n d (listOf f k)) (le-antisymm b a)
+
+  -- what stands at an index
+  list-at : (m i : ℕ) (b : A) → i < m → getD (listOf f m) i b ≡ f i
+  unfolding listOf
+  list-at zero i b h = absurd (not-suc-le-zero h)
+  list-at (suc m) i b h =
+      let l = length-list m in
+      byEq i m
+      (λ e. getD-at (listOf f m) (f m) [] b i (omega arith) ∙ ap f (sym e))
+      (λ e. List·getD-append (listOf f m) (f m ∷ []) b i (omega arith) ∙ list-at m i b (omega arith))
+
+  pub pad-at : (m i : ℕ) (b : A) → i < m → getD (padTo n d (listOf f m)) i b ≡ f i
+  unfolding padTo
+  pad-at m i b h = let l = length-list m in List·getD-append (listOf f m) _ b i (omega arith) ∙ list-at m i b h
+
+  pub pad-past : (m i : ℕ) (b : A) → m ≤ i → i < n → getD (padTo n d (listOf f m)) i b ≡ d
+  unfolding padTo
+  pad-past m i b h k =
+      let l = length-list m in
+      let e : i ≡ length (listOf f m) + (i - m) = omega arith in
+      ap (λ (j : ℕ). getD (listOf f m ++ replicate (n - length (listOf f m)) d) j b) e
+      ∙ getD-append-add (listOf f m) (replicate (n - length (listOf f m)) d) (i - m) b
+      ∙ getD-replicate (n - length (listOf f m)) (i - m) d b (omega arith)
 
 -- A loop that counts the indices that pass p.
 module _ (p : ℕ → Bool) where

@@ -1,4 +1,5 @@
--- What the test of an element says, and how a new element meets it; and, at the end, what check 9 says of a whole table in plain numbers (record `Facts`). M is the machine count, E the entry count, B the largest replica number allowed.
+-- What the test of an element says, and how a new element meets it; and, at the end, what check 9 says of a whole table in plain numbers (record `Facts`).
+-- M is the machine count, E the entry count, B the largest replica number allowed.
 -- Assumes nothing.
 use Prim.Native.Nat.{ℕ, _≤_, _<_, max}
 use mathlib.Core.Path.{_≡_, refl, sym, ap, _∙_}

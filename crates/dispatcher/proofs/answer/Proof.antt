@@ -1,4 +1,4 @@
--- `dispatcher::answer` meets its contract.
+-- `dispatcher::answer` meets its contract. Past the first two tests the event is formed, past the third its numbers are those of the table.
 -- Assumes nothing.
 use borrow.Author.Needs.{needs}
 use borrow.Author.Tests.{not-false, not-true}

@@ -1,4 +1,4 @@
--- `dispatcher::numbered` meets its contract.
+-- `dispatcher::numbered` meets its contract. The tests are those of the definition.
 -- Assumes nothing.
 use Rattle.lists.proofs.Rules.{flags}
 use Rattle.dispatcher.specs.Step.{numbered}

@@ -1,4 +1,4 @@
--- `dispatcher::step` meets its contract.
+-- `dispatcher::step` meets its contract. Past the first test the table passes check 9.
 -- Assumes nothing.
 use borrow.Author.Needs.{needs}
 use borrow.Author.Tests.{not-false, not-true}

@@ -1,4 +1,4 @@
--- `events::admit` meets its contract.
+-- `events::admit` meets its contract. One refusal, then the equation of `open`.
 -- Assumes nothing.
 use borrow.Author.Needs.{needs}
 use Rattle.lists.proofs.Rules.{flags}

@@ -1,4 +1,4 @@
--- `events::deliver` meets its contract.
+-- `events::deliver` meets its contract. The message found is in flight, so that its numbers are within the arrays; once it is taken off, a slot is free.
 -- Assumes nothing.
 use borrow.Author.Needs.{needs}
 use Rattle.lists.proofs.Rules.{flags, tests}
@@ -44,7 +44,8 @@ deliver-spec =
     (tie.spec
     oldest-requires
     cast-n
-    refuse-requires returns
+    refuse-requires
+    returns
     mul-m
     element-copy-out-m
     pull-requires

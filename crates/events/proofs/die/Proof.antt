@@ -1,4 +1,4 @@
--- `events::die` meets its contract.
+-- `events::die` meets its contract. The two refusals come in the order of the definition.
 -- Assumes nothing.
 use borrow.Author.Needs.{needs}
 use Rattle.lists.proofs.Rules.{flags}

@@ -1,4 +1,4 @@
--- `events::died` meets its contract.
+-- `events::died` meets its contract. The equations of `wipe` and `drop_to`, and between them one store.
 -- Assumes nothing.
 use borrow.Author.Needs.{needs}
 use Rattle.lists.proofs.Rules.{tests}

@@ -1,4 +1,4 @@
--- `events::done` meets its contract.
+-- `events::done` meets its contract. The three refusals come in the order of the definition.
 -- Assumes nothing.
 use borrow.Author.Needs.{needs}
 use Rattle.lists.proofs.Rules.{flags, tests}

@@ -1,4 +1,4 @@
--- `events::finished` meets its contract.
+-- `events::finished` meets its contract. The price is the pricer's, by its equation alone.
 -- Assumes nothing.
 use borrow.Author.Needs.{needs}
 use Rattle.lists.proofs.Rules.{tests}

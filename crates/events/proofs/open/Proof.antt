@@ -1,4 +1,4 @@
--- `events::open` meets its contract.
+-- `events::open` meets its contract. One store, then the equation of `enter`.
 -- Assumes nothing.
 use borrow.Author.Needs.{needs}
 use Rattle.lists.proofs.Rules.{flags}

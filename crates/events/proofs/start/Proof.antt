@@ -1,4 +1,4 @@
--- `events::start` meets its contract.
+-- `events::start` meets its contract. The three refusals come in the order of the definition.
 -- Assumes nothing.
 use borrow.Author.Needs.{needs}
 use Rattle.lists.proofs.Rules.{flags}
@@ -56,11 +56,14 @@ start-spec =
     (tie.spec
     mul-n
     element-copy-out-n
-    refuse-requires returns
-    refuse-requires-2 returns-2
+    refuse-requires
+    returns
+    refuse-requires-2
+    returns-2
     mul-r
     add-r
     element-copy-out-r
-    refuse-requires-3 returns-3
+    refuse-requires-3
+    returns-3
     started-requires
     returns-4)

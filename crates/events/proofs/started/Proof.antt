@@ -1,4 +1,4 @@
--- `events::started` meets its contract.
+-- `events::started` meets its contract. Two stores.
 -- Assumes nothing.
 use borrow.Author.Needs.{needs}
 use Rattle.lists.proofs.Rules.{flags}

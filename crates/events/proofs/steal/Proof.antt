@@ -1,4 +1,4 @@
--- `events::steal` meets its contract.
+-- `events::steal` meets its contract. The five refusals come in the order of the definition.
 -- Assumes nothing.
 use borrow.Author.Needs.{needs}
 use Rattle.lists.proofs.Rules.{flags}
@@ -64,11 +64,16 @@ steal-spec =
     (tie.spec
     mul-n
     element-copy-out-n
-    refuse-requires returns
-    refuse-requires-2 returns-2
-    refuse-requires-3 returns-3
+    refuse-requires
+    returns
+    refuse-requires-2
+    returns-2
+    refuse-requires-3
+    returns-3
     told-at-requires
-    refuse-requires-4 returns-4
-    refuse-requires-5 returns-5
+    refuse-requires-4
+    returns-4
+    refuse-requires-5
+    returns-5
     stolen-requires
     returns-6)

@@ -1,4 +1,4 @@
--- `events::stolen` meets its contract.
+-- `events::stolen` meets its contract. One store, then the equation of `send`.
 -- Assumes nothing.
 use borrow.Author.Needs.{needs}
 use Rattle.lists.proofs.Rules.{flags}

@@ -1,4 +1,4 @@
--- `handlers::grant` meets its contract.
+-- `handlers::grant` meets its contract. Pool, machine and message are those of the definition.
 -- Assumes nothing.
 use borrow.Author.Needs.{needs}
 use Rattle.lists.proofs.Rules.{flags}

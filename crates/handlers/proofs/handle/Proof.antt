@@ -1,4 +1,4 @@
--- `handlers::handle` meets its contract.
+-- `handlers::handle` meets its contract. The kinds are tested in the order of the definition.
 -- Assumes nothing.
 use borrow.Author.Needs.{needs}
 use Rattle.lists.proofs.Rules.{flags}

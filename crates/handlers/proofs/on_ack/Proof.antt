@@ -1,4 +1,4 @@
--- `handlers::on_ack` meets its contract.
+-- `handlers::on_ack` meets its contract. The test is one flag.
 -- Assumes nothing.
 use borrow.Author.Needs.{needs}
 use Rattle.table.specs.Parts.{pieces}

@@ -1,4 +1,4 @@
--- `handlers::on_auth` meets its contract.
+-- `handlers::on_auth` meets its contract. The match is the test of the definition; what is sent goes by the equation of `send`.
 -- Assumes nothing.
 use borrow.Author.Needs.{needs}
 use Rattle.lists.proofs.Rules.{tests}

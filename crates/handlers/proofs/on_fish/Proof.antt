@@ -1,4 +1,4 @@
--- `handlers::on_fish` meets its contract.
+-- `handlers::on_fish` meets its contract. The two refusals of work and the grant come in the order of the definition.
 -- Assumes nothing.
 use borrow.Author.Needs.{needs}
 use Rattle.lists.proofs.Rules.{flags}

@@ -1,4 +1,4 @@
--- `handlers::on_no_work` meets its contract.
+-- `handlers::on_no_work` meets its contract. One store into one machine.
 -- Assumes nothing.
 use borrow.Author.Needs.{needs}
 use Rattle.lists.proofs.Rules.{flags}

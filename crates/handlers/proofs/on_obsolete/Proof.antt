@@ -1,4 +1,4 @@
--- `handlers::on_obsolete` meets its contract.
+-- `handlers::on_obsolete` meets its contract. The match is the test of the definition.
 -- Assumes nothing.
 use borrow.Author.Needs.{needs}
 use Rattle.lists.proofs.Rules.{tests}

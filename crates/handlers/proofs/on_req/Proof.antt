@@ -1,4 +1,4 @@
--- `handlers::on_req` meets its contract.
+-- `handlers::on_req` meets its contract. The three answers come in the order of the definition; each test is one flag.
 -- Assumes nothing.
 use borrow.Author.Needs.{needs}
 use Rattle.table.specs.Parts.{pieces}

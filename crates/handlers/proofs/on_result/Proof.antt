@@ -1,4 +1,4 @@
--- `handlers::on_result` meets its contract.
+-- `handlers::on_result` meets its contract. The test is that of the definition.
 -- Assumes nothing.
 use borrow.Author.Needs.{needs}
 use Rattle.lists.proofs.Rules.{flags}

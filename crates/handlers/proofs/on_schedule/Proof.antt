@@ -1,4 +1,4 @@
--- `handlers::on_schedule` meets its contract.
+-- `handlers::on_schedule` meets its contract. What enters the pool and what is sent go by the equations of `enter` and `send`.
 -- Assumes nothing.
 use borrow.Author.Needs.{needs}
 use Rattle.lists.proofs.Rules.{tests}

@@ -1,4 +1,4 @@
--- `handlers::released` meets its contract.
+-- `handlers::released` meets its contract. One store into one machine.
 -- Assumes nothing.
 use borrow.Author.Needs.{needs}
 use Rattle.lists.proofs.Rules.{flags}

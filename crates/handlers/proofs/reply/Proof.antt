@@ -1,4 +1,4 @@
--- `handlers::reply` meets its contract.
+-- `handlers::reply` meets its contract. The message is that of the definition.
 -- Assumes nothing.
 use borrow.Author.Needs.{needs}
 use Rattle.lists.proofs.Rules.{flags}

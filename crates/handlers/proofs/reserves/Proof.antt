@@ -1,4 +1,4 @@
--- `handlers::reserves` meets its contract.
+-- `handlers::reserves` meets its contract. The same comparisons in the same order.
 -- Assumes nothing.
 use Rattle.lists.proofs.Rules.{flags}
 use Rattle.table.specs.Parts.{copyIs, reserves}

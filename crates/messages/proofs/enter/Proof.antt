@@ -1,4 +1,4 @@
--- `messages::enter` meets its contract.
+-- `messages::enter` meets its contract. The larger number is stored where the definition has it.
 -- Assumes nothing.
 use borrow.Author.Needs.{needs}
 use Rattle.table.specs.Views.{enter, parts}

@@ -1,4 +1,4 @@
--- `messages::returned` meets its contract.
+-- `messages::returned` meets its contract. The copy enters the pool before the machine is changed, as in the definition.
 -- Assumes nothing.
 use borrow.Author.Needs.{needs}
 use Rattle.lists.proofs.Rules.{tests}

@@ -1,4 +1,4 @@
--- `messages::send` meets its contract.
+-- `messages::send` meets its contract. The test of the receiver is that of the definition.
 -- Assumes nothing.
 use borrow.Author.Needs.{needs}
 use Rattle.lists.proofs.Rules.{flags}

@@ -1,4 +1,4 @@
--- `messages::told_at` meets its contract.
+-- `messages::told_at` meets its contract. The place in the flat array is that of the view.
 -- Assumes nothing.
 use borrow.Author.Needs.{needs}
 use Rattle.lists.proofs.Rules.{flags}

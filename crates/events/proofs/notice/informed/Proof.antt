@@ -1,4 +1,4 @@
--- `events::notice::informed` meets its contract.
+-- `events::notice::informed` meets its contract. The equation of `drop_from`, then one store.
 -- Assumes nothing.
 use borrow.Author.Needs.{needs}
 use Rattle.table.specs.Views.{parts}

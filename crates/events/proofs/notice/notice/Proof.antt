@@ -1,4 +1,4 @@
--- `events::notice::notice` meets its contract.
+-- `events::notice::notice` meets its contract. The three refusals come in the order of the definition.
 -- Assumes nothing.
 use borrow.Author.Needs.{needs}
 use Rattle.lists.proofs.Rules.{flags}
@@ -56,11 +56,14 @@ notice-spec =
     (tie.spec
     mul-n
     element-copy-out-n
-    refuse-requires returns
+    refuse-requires
+    returns
     mul-d
     element-copy-out-d
-    refuse-requires-2 returns-2
+    refuse-requires-2
+    returns-2
     told-at-requires
-    refuse-requires-3 returns-3
+    refuse-requires-3
+    returns-3
     noticed-requires
     returns-4)

@@ -1,4 +1,4 @@
--- `events::notice::noticed` meets its contract.
+-- `events::notice::noticed` meets its contract. No job has changed before the root's loop, so that replica numbers can still rise.
 -- Assumes nothing.
 use Rattle.lists.proofs.Rules.{flags, tests}
 use Rattle.events.proofs.Parts.{job-quieted}

@@ -1,4 +1,4 @@
--- `events::notice::quieted` meets its contract.
+-- `events::notice::quieted` meets its contract. The equations of the three steps; none of the first two moves the reserved job.
 -- Assumes nothing.
 use borrow.Author.Needs.{needs}
 use Rattle.lists.proofs.Rules.{tests}

@@ -1,4 +1,4 @@
--- `events::notice::reclaimed` meets its contract.
+-- `events::notice::reclaimed` meets its contract. The test is one flag.
 -- Assumes nothing.
 use borrow.Author.Needs.{needs}
 use Rattle.lists.proofs.Rules.{tests}

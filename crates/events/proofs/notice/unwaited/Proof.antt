@@ -1,4 +1,4 @@
--- `events::notice::unwaited` meets its contract.
+-- `events::notice::unwaited` meets its contract. The test is that of the definition.
 -- Assumes nothing.
 use borrow.Author.Needs.{needs}
 use Rattle.lists.proofs.Rules.{flags}

@@ -1,0 +1,71 @@
+-- The fresh table of every accepted book passes check 9, and what stands beside a refused book's number does not.
+-- Assumes nothing.
+use Prim.Native.Nat.{ℕ, _≤_, _<_}
+use mathlib.Core.Path.{_≡_, refl, sym, ap, _∙_}
+use mathlib.Core.Bool.{true, false}
+use mathlib.Core.List.{List}
+use native.Mathlib.Omega.{arith}
+use borrow.Author.Tests.{ltb-true, ltb-false, le-leb}
+use lib.Dec.{ltb}
+use lib.Ieee.{toBits}
+use Rattle.lists.proofs.Cases.{byBool}
+use Rattle.pricer.specs.Range.{inRange}
+use Rattle.book.specs.Book.{bookVerdict}
+use Rattle.book.specs.Parts.{machineCount, entryCount, noBond, bondAt, bondOf}
+use Rattle.book.proofs.Accepted.{accepted, accepted-size, entry, bond-below, bond-past}
+use Rattle.table.specs.Views.{nodeAt}
+use Rattle.elements.specs.Elements.{emptyBond, bondOk, nodeOk}
+use Rattle.validity.specs.Validity.{bound, tableOk}
+use Rattle.preservation.proofs.Ok.{Ok, passes}
+use Rattle.opening.specs.Opening.{blank, freshOf, noTable}
+use Rattle.opening.proofs.Counts.{machines-most, entries-most}
+use Rattle.opening.proofs.Shown.{sized-fresh, machines-fresh, entries-fresh, used-fresh, bond-fresh, job-fresh, node-fresh, node-past, told-fresh, pool-fresh, flight-fresh, padded-fresh}
+
+no-bond-empty : emptyBond noBond ≡ true
+unfolding toBits
+no-bond-empty = refl
+
+module _ (s : List ℕ) (e : bookVerdict s ≡ 0) where
+  two : 2 ≤ machineCount s
+  two = omega (arith, accepted-size s 0 e, accepted s e .sizes-in-range .some)
+
+  -- an entry's bond is in range
+  in-range : (j : ℕ) → j < entryCount s → inRange (bondOf s j) ≡ true
+  in-range j h =
+      let n = accepted-size s 2 e in
+      ap inRange (sym (bond-below s j h) ∙ ap (λ (k : ℕ). bondAt s k j) n) ∙ entry s (accepted s e) j (omega arith) .in-range
+
+  bond : (j : ℕ) → bondOk (entryCount s) j (bondOf s j) ≡ true
+  bond j =
+      byBool (ltb j (entryCount s))
+      (λ l. rw l (in-range j (ltb-true _ _ l)))
+      (λ l. rw (l, ← bond-past s j (ltb-false _ _ l)) no-bond-empty)
+
+  node : (m : ℕ) → m < 16 → nodeOk (machineCount s) (entryCount s) (bound (freshOf s)) m (nodeAt (freshOf s) m) ≡ true
+  node m h =
+      byBool (ltb m (machineCount s))
+      (λ l. let q = node-fresh s m (ltb-true _ _ l) in simp (q, l, le-leb 0 (machineCount s) (omega arith)))
+      (λ l. let q = node-past s m (ltb-false _ _ l) h in simp q)
+
+  pub fresh-ok : Ok (freshOf s)
+  fresh-ok =
+      let q = node-fresh s 0 (omega (arith, two)) in
+      record {
+        sizes = simp (machines-fresh s, entries-fresh s, used-fresh s, le-leb 2 (machineCount s) two, le-leb (machineCount s) 16 (machines-most s), le-leb (entryCount s) 64 (entries-most s));
+        bond = λ j h. let r = bond-fresh s j h in simp (entries-fresh s, r) (bond j);
+        job = λ j h. simp (job-fresh s);
+        node = λ m h. simp (machines-fresh s, entries-fresh s) (node m h);
+        pool = λ m j h k. simp (pool-fresh s);
+        messages = rw (flight-fresh s) tt;
+        padded = padded-fresh s;
+        root = simp q;
+        told = λ m d h k. simp (told-fresh s);
+      }
+
+  pub fresh-passes : tableOk (freshOf s) ≡ true
+  fresh-passes = passes (freshOf s) (sized-fresh s) fresh-ok
+
+-- its machine count is outside its range
+pub no-table-fails : tableOk noTable ≡ false
+unfolding tableOk noTable blank
+no-table-fails = refl

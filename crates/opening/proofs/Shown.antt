@@ -1,0 +1,79 @@
+-- What the views of a fresh table show: its bonds are the book's, its machines are alive, and nothing has happened in it. Assumes nothing.
+use Prim.Native.Nat.{ℕ, _+_, _*_, _-_, _≤_, _<_}
+use mathlib.Core.Path.{_≡_, refl, _∙_}
+use mathlib.Core.List.{List, []}
+use native.Mathlib.Omega.{arith}
+use borrow.Author.Tests.{ltb-true, ltb-false}
+use lib.Dec.{ltb}
+use lib.ListN.{length-replicate}
+use Rattle.lists.specs.Scan.{padTo, listOf}
+use Rattle.lists.proofs.Scans.{length-pad, length-list, pad-at, pad-past}
+use Rattle.lists.proofs.Cases.{byBool}
+use Rattle.lists.proofs.Count.{getD-same}
+use Rattle.book.specs.Parts.{machineCount, entryCount, noBond, bondOf}
+use Rattle.book.proofs.Accepted.{bond-past}
+use Rattle.table.specs.Views.{noJob, noMachine, noMessage, pastBond, bondAt, jobAt, nodeAt, poolAt, toldAt, flight}
+use Rattle.table.proofs.Views.{Sized}
+use Rattle.table.proofs.Messages.{Padded}
+use Rattle.opening.specs.Opening.{blank, quiet, bondsOf, nodesOf, freshOf}
+use Rattle.opening.proofs.Counts.{machines-most}
+
+module _ (s : List ℕ) where
+  pub sized-fresh : Sized (freshOf s)
+  unfolding freshOf blank nodesOf
+  sized-fresh = record {
+    jobs = length-replicate 64 noJob;
+    nodes = length-pad 16 noMachine (listOf (λ k. quiet 1) (machineCount s)) (omega (arith, length-list (λ k. quiet 1) 16 noMachine (machineCount s), machines-most s));
+    told = length-replicate {A = ℕ} 256 0;
+    pools = length-replicate {A = ℕ} 1024 0;
+    messages = length-replicate 128 noMessage;
+    used = omega arith;
+  }
+
+  pub machines-fresh : freshOf s .machines ≡ machineCount s
+  unfolding freshOf blank
+  machines-fresh = refl
+
+  pub entries-fresh : freshOf s .entries ≡ entryCount s
+  unfolding freshOf blank
+  entries-fresh = refl
+
+  pub used-fresh : freshOf s .«in_flight» ≡ 0
+  unfolding freshOf blank
+  used-fresh = refl
+
+  pub bond-fresh : (j : ℕ) → j < 64 → bondAt (freshOf s) j ≡ bondOf s j
+  unfolding freshOf blank bondsOf bondAt
+  bond-fresh j h =
+      let n = entryCount s in
+      byBool (ltb j n)
+      (λ e. pad-at (bondOf s) 64 noBond n j pastBond (ltb-true j n e))
+      (λ e. let l = ltb-false j n e in pad-past (bondOf s) 64 noBond n j pastBond l h ∙ bond-past s j l)
+
+  pub job-fresh : (j : ℕ) → jobAt (freshOf s) j ≡ noJob
+  unfolding freshOf blank jobAt
+  job-fresh j = getD-same 64 j noJob
+
+  pub node-fresh : (m : ℕ) → m < machineCount s → nodeAt (freshOf s) m ≡ quiet 1
+  unfolding freshOf blank nodesOf nodeAt
+  node-fresh m h = pad-at (λ k. quiet 1) 16 noMachine (machineCount s) m noMachine h
+
+  pub node-past : (m : ℕ) → machineCount s ≤ m → m < 16 → nodeAt (freshOf s) m ≡ noMachine
+  unfolding freshOf blank nodesOf nodeAt
+  node-past m h k = pad-past (λ k. quiet 1) 16 noMachine (machineCount s) m noMachine h k
+
+  pub told-fresh : (m d : ℕ) → toldAt (freshOf s) m d ≡ 0
+  unfolding freshOf blank toldAt
+  told-fresh m d = getD-same 256 (m * 16 + d) 0
+
+  pub pool-fresh : (m j : ℕ) → poolAt (freshOf s) m j ≡ 0
+  unfolding freshOf blank poolAt
+  pool-fresh m j = getD-same 1024 (m * 64 + j) 0
+
+  pub flight-fresh : flight (freshOf s) ≡ []
+  unfolding freshOf blank flight
+  flight-fresh = refl
+
+  pub padded-fresh : Padded (freshOf s)
+  unfolding Padded padTo freshOf blank flight
+  padded-fresh = refl
