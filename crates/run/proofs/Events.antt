@@ -8,6 +8,7 @@ use lib.ListN.{length, take, drop, length-drop}
 use lib.Seq.{take-all}
 use Rattle.table.specs.declared.Table.{Table}
 use Rattle.table.proofs.Long.{Long, sized}
+use Rattle.table.proofs.Views.{Sized}
 use Rattle.validity.specs.Validity.{tableOk}
 use Rattle.preservation.proofs.Ok.{tests, used-most}
 use Rattle.dispatcher.specs.Step.{runOf}
@@ -26,5 +27,8 @@ module _ (s : List ℕ) (k : ℕ) where
   whole-event = let e : 3 * k + 3 - 3 * k ≡ 3 = omega arith in ap (λ (n : ℕ). take n (drop (3 * k) s)) e
 
 -- the lengths are those of the table's arrays, which the code knows
+pub passed-sized : (t : Table) → Long t → tableOk t ≡ true → Sized t
+passed-sized t l h = sized t l (used-most t (tests t h .sizes))
+
 pub run-passes : (t : Table) (es : List (List ℕ)) → Long t → tableOk t ≡ true → tableOk (runOf t es) ≡ true
-run-passes t es l h = run-ok t es (sized t l (used-most t (tests t h .sizes))) h
+run-passes t es l h = run-ok t es (passed-sized t l h) h

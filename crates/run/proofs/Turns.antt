@@ -11,6 +11,7 @@ use lib.Dec.{eqb}
 use lib.ListN.{length, length-append}
 use Rattle.lists.specs.Scan.{listOf}
 use Rattle.lists.proofs.Cases.{byBool}
+use Rattle.lists.proofs.Scans.{length-list}
 use Rattle.lines.specs.Lines.{eventRefused}
 use Rattle.lines.proofs.Longest.{event-most}
 use Rattle.table.specs.declared.Table.{Table}
@@ -76,14 +77,9 @@ refusals-most place t (e ∷ es) =
 
 -- ---- the events of s, of which the first k have been run
 
-pub length-list : {A : Type 0} (f : ℕ → A) (n : ℕ) → length (listOf f n) ≡ n
+list-next : {A : Type 0} (f : ℕ → A) (k : ℕ) → listOf f (k + 1) ≡ listOf f k ++ (f k ∷ [])
 unfolding listOf
-length-list f zero = refl
-length-list f (suc n) = length-append (listOf f n) (f n ∷ []) ∙ ap (λ (k : ℕ). k + 1) (length-list f n) ∙ add-one n
-
-pub list-more : {A : Type 0} (f : ℕ → A) (k : ℕ) → listOf f (k + 1) ≡ listOf f k ++ (f k ∷ [])
-unfolding listOf
-list-more f k = rw (add-one k)
+list-next f k = rw (add-one k)
 
 -- the first k events of s have been run from t, and their lines stand at the front of the buffer d, which is now e
 pub record Turn (t : Table) (s d : List ℕ) (k at : ℕ) (u : Table) (e : List ℕ) : Type 0 where
@@ -103,19 +99,19 @@ module _ (t : Table) (s d : List ℕ) where
       let es = listOf (eventAt s) k in
       let b = eventAt s k in
       let q : Listed e at (refusal (k + 1) (stepOf u b .number)) (stepOf u b .table) f r = rw i at j in
-      let l : length es ≡ k = length-list (eventAt s) k in
+      let l : length es ≡ k = length-list (eventAt s) 0 [] k in
       let place : 1 + length es ≡ k + 1 = omega arith in
       let w : refusalsOf 1 t es ++ refusal (k + 1) (stepOf u b .number) ≡ refusalsOf 1 t (listOf (eventAt s) (k + 1)) =
       ap (λ (v : Table). refusalsOf 1 t es ++ refusal (k + 1) (stepOf v b .number)) (p .table)
       ∙ ap (λ (n : ℕ). refusalsOf 1 t es ++ refusal n (stepOf (runOf t es) b .number)) (sym place)
       ∙ sym (refusals-more 1 t es b)
-      ∙ ap (refusalsOf 1 t) (sym (list-more (eventAt s) k)) in
+      ∙ ap (refusalsOf 1 t) (sym (list-next (eventAt s) k)) in
       let m : length (refusalsOf 1 t (listOf (eventAt s) (k + 1))) ≤ 23 * (k + 1) =
-      omega (arith, refusals-most 1 t (listOf (eventAt s) (k + 1)), length-list (eventAt s) (k + 1)) in
+      omega (arith, refusals-most 1 t (listOf (eventAt s) (k + 1)), length-list (eventAt s) 0 [] (k + 1)) in
       let g : Written d 0 (refusalsOf 1 t es ++ refusal (k + 1) (stepOf u b .number)) f (r .length) = then (p .lines) (q .lines) (rw w (omega arith)) in
       let x : Written d 0 (refusalsOf 1 t (listOf (eventAt s) (k + 1))) f (r .length) = rw w at g in
       record {
-        table = q .table ∙ ap (λ (v : Table). stepOf v b .table) (p .table) ∙ sym (run-more t es b) ∙ ap (runOf t) (sym (list-more (eventAt s) k));
+        table = q .table ∙ ap (λ (v : Table). stepOf v b .table) (p .table) ∙ sym (run-more t es b) ∙ ap (runOf t) (sym (list-next (eventAt s) k));
         lines = x;
         most = omega (arith, x .end);
       }
