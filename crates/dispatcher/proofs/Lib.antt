@@ -1,4 +1,5 @@
 pub mod Numbers
+pub mod Events
 pub mod ByEvent
 pub mod Kept
 pub mod Nine

@@ -14,7 +14,7 @@ use Rattle.table.proofs.Views.{Sized, views, sized-pool, node-same, node-other,
 use Rattle.events.specs.Events.{started}
 use Rattle.lists.proofs.Cases.{byEq}
 use Rattle.invariant.proofs.State.{Whole}
-use Rattle.invariant.proofs.About.{alive-running}
+use Rattle.invariant.proofs.Alive.{alive-started}
 use Rattle.invariant.proofs.Fixed.{fixed-started}
 use Rattle.dispatcher.specs.Step.{stepOf}
 use Rattle.drain.proofs.Reach.{Reach, reach-here, reach-step, reach-map, reach-loop}
@@ -61,12 +61,6 @@ module _ (t : Table) (a j : ℕ) (z : Sized t) (al : a < 16) where
   unfolding started
   start-other m e = node-other (withPool t a j 0) a m (running (nodeAt t a) j (poolAt t a j)) e ∙ node-pool t a j 0 m
 
-  start-alive : (m : ℕ) → nodeAt (started t a j) m .alive ≡ nodeAt t m .alive
-  start-alive m =
-      byEq m a
-      (λ e. rw e (ap (λ (n : Machine). n .alive) start-node ∙ alive-running (nodeAt t a) j (poolAt t a j)))
-      (λ e. ap (λ (n : Machine). n .alive) (start-other m e))
-
   start-job : (i : ℕ) → jobAt (started t a j) i ≡ jobAt t i
   unfolding started
   start-job i = simp views
@@ -75,7 +69,7 @@ module _ (t : Table) (a j : ℕ) (z : Sized t) (al : a < 16) where
   unfolding started
   start-quiet w q = record {
     whole = w;
-    informed = informed-same t (started t a j) (fixed-started (λ v. v .machines) fixed-machines t a j) start-alive (λ m d. simp views) (q .informed);
+    informed = informed-same t (started t a j) (fixed-started (λ v. v .machines) fixed-machines t a j) (λ m. alive-started t z a j m al) (λ m d. simp views) (q .informed);
     empty = simp views (q .empty);
   }
 

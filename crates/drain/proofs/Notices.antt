@@ -14,9 +14,9 @@ use Rattle.events.specs.Notice.{quieted, noticed}
 use Rattle.lists.proofs.Cases.{byBool, byEq}
 use Rattle.invariant.proofs.State.{Whole}
 use Rattle.invariant.proofs.Fixed.{fixed-noticed}
-use Rattle.invariant.proofs.Quieted.{node-quieted, node-quieted-other, told-quieted, told-quieted-other}
-use Rattle.invariant.proofs.ConservedNotice.{alive-quieted}
-use Rattle.invariant.proofs.Reissued.{node-reissue, told-reissue}
+use Rattle.invariant.proofs.Quieted.{told-quieted, told-quieted-other}
+use Rattle.invariant.proofs.Alive.{alive-noticed}
+use Rattle.invariant.proofs.Reissued.{told-reissue}
 use Rattle.dispatcher.specs.Step.{stepOf}
 use Rattle.drain.proofs.Reach.{Reach, reach-here, reach-step, reach-loop}
 use Rattle.drain.proofs.Steps.{event, accepts-notice}
@@ -25,14 +25,6 @@ use Rattle.drain.proofs.Kept.{kept, fixed-machines}
 -- ---- the table after a notice to the root
 
 module _ (t : Table) (b : ℕ) (w : Whole t) where
-  alive-noticed : (m : ℕ) → nodeAt (noticed t 0 b) m .alive ≡ nodeAt t m .alive
-  unfolding noticed
-  alive-noticed m =
-      ap (λ (n : Machine). n .alive) (node-reissue (quieted t 0 b) b m)
-      ∙ byEq m 0
-      (λ e. rw e (ap (λ (n : Machine). n .alive) (node-quieted t 0 b (w .sized) (omega arith)) ∙ alive-quieted (nodeAt t 0) b))
-      (λ e. ap (λ (n : Machine). n .alive) (node-quieted-other t 0 b m e))
-
   told-noticed : b < 16 → toldAt (noticed t 0 b) 0 b ≡ 1
   unfolding noticed
   told-noticed bl = told-reissue (quieted t 0 b) b 0 b ∙ told-quieted t 0 b (w .sized) (omega arith) bl
@@ -69,7 +61,7 @@ one k t kl h =
       whole = kept t u (event 7 0 b) w step;
       told = λ d l m g. byEq d b
           (λ q. rw (q, told-noticed t b w (omega arith)) (λ z. omega arith))
-          (λ q. rw (told-noticed-other t b w d (omega arith) (omega arith) q) (h .told d (omega arith) (omega arith) (λ a. g (alive-noticed t b w d ∙ a))));
+          (λ q. rw (told-noticed-other t b w d (omega arith) (omega arith) q) (h .told d (omega arith) (omega arith) (λ a. g (alive-noticed t (h .whole .sized) 0 b d (omega arith) ∙ a))));
     })))
     (λ e. here (λ d q l g. rw q e))))
     (λ c. let out : t .machines ≤ b = ltb-false b (t .machines) c in here (λ d q l. absurd (omega arith)))

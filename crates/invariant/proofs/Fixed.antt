@@ -1,18 +1,17 @@
 -- A part of the table that no one-part update writes, such as an entry's terms, is after every event, and along every run, what it was before.
 -- Assumes nothing.
 use mathlib.Core.Path.{_≡_, refl, _∙_}
-use mathlib.Core.Bool.{Bool, not, cond, _&&_, _||_}
+use mathlib.Core.Bool.{not, _&&_, _||_}
 use mathlib.Core.List.{List}
 use Prim.Native.Nat.{ℕ, zero, suc, _+_}
 use lib.Dec.{eqb, leb}
 use Rattle.lists.specs.Scan.{upTo}
-use Rattle.lists.proofs.Cases.{byBool}
 use Rattle.table.specs.declared.Job.{Job}
 use Rattle.table.specs.declared.Machine.{Machine}
 use Rattle.table.specs.declared.Message.{Message}
 use Rattle.table.specs.declared.Table.{Table}
 use Rattle.table.specs.Views.{noMachine, bondAt, jobAt, nodeAt, toldAt, messageAt, withJob, withNode, withPool, withTold, withMessages, enter}
-use Rattle.table.specs.Messages.{push, pull, sift, send, lowest, wipe}
+use Rattle.table.specs.Messages.{pull, sift, send, lowest, wipe}
 use Rattle.table.specs.Parts.{reserves, returned, AUTH, DENIED, OBSOLETE}
 use Rattle.table.proofs.Views.{bond-job, bond-node, bond-pool, bond-told, bond-messages}
 use Rattle.handlers.specs.Handlers.{noWork, grant, onFish, reply, onReq, onAuth, onDenied, onObsolete, onSchedule, onAck, onNoWork, onResult, handle}
@@ -20,6 +19,7 @@ use Rattle.events.specs.Events.{admitted, stolen, delivered, started, finished,
 use Rattle.dispatcher.specs.Step.{stepOf, runOf}
 use Rattle.dispatcher.proofs.ByEvent.{Kept, by-step, by-run}
 use Rattle.events.specs.Notice.{informed, unwaited, reclaimed, quieted, lost, reissueOne, reissue, noticed}
+use Rattle.invariant.proofs.Flight.{view-either, view-send}
 
 -- no one-part update writes what f reads
 pub record Fixed {A : Type 0} (f : Table → A) : Type 0 where
@@ -40,13 +40,8 @@ fixed-bond j = record {
 }
 
 module _ {A : Type 0} (f : Table → A) (h : Fixed f) where
-  -- either of two tables
-  either : (b : Bool) (u v : Table) (a : A) → f u ≡ a → f v ≡ a → f (cond b u v) ≡ a
-  either b u v a d e = byBool b (λ c. rw c d) (λ c. rw c e)
-
   fixed-send : (t : Table) (x : Message) → f (send t x) ≡ f t
-  unfolding send push
-  fixed-send t x = either (eqb (nodeAt t (x .to) .alive) 1) _ t (f t) (h .messages t _ _) refl
+  fixed-send t x = view-send f t x (h .messages t)
 
   fixed-enter : (t : Table) (m j r : ℕ) → f (enter t m j r) ≡ f t
   unfolding enter
@@ -78,27 +73,27 @@ module _ {A : Type 0} (f : Table → A) (h : Fixed f) where
     fixed-fish : f (onFish t x) ≡ f t
     unfolding onFish
     fixed-fish =
-        either (not (eqb (nodeAt t (x .to) .«reserved_replica») 0)) _ _ (f t) (fixed-noWork t (x .to) (x .from))
-        (either (leb 64 (lowest t (x .to))) _ _ (f t) (fixed-noWork t (x .to) (x .from)) (fixed-grant t (x .to) (x .from) (lowest t (x .to))))
+        view-either f (not (eqb (nodeAt t (x .to) .«reserved_replica») 0)) _ _ (f t) (fixed-noWork t (x .to) (x .from))
+        (view-either f (leb 64 (lowest t (x .to))) _ _ (f t) (fixed-noWork t (x .to) (x .from)) (fixed-grant t (x .to) (x .from) (lowest t (x .to))))
 
     fixed-req : f (onReq t x) ≡ f t
     unfolding onReq
     fixed-req =
-        either (eqb (jobAt t (x .job) .state) 2 || not (eqb (jobAt t (x .job) .replica) (x .replica))) _ _ (f t) (fixed-reply t x OBSOLETE)
-        (either (not (eqb (toldAt t 0 (x .thief)) 0) || not (eqb (jobAt t (x .job) .moving) 0)) _ _ (f t) (fixed-reply t x DENIED)
+        view-either f (eqb (jobAt t (x .job) .state) 2 || not (eqb (jobAt t (x .job) .replica) (x .replica))) _ _ (f t) (fixed-reply t x OBSOLETE)
+        (view-either f (not (eqb (toldAt t 0 (x .thief)) 0) || not (eqb (jobAt t (x .job) .moving) 0)) _ _ (f t) (fixed-reply t x DENIED)
         (fixed-reply _ x AUTH ∙ h .job t (x .job) _))
 
     fixed-auth : f (onAuth t x) ≡ f t
     unfolding onAuth
-    fixed-auth = either (reserves (nodeAt t (x .to)) (x .job) (x .replica) (x .thief)) _ t (f t) (sends-node t (x .to) _ _) refl
+    fixed-auth = view-either f (reserves (nodeAt t (x .to)) (x .job) (x .replica) (x .thief)) _ t (f t) (sends-node t (x .to) _ _) refl
 
     fixed-denied : f (onDenied t x) ≡ f t
     unfolding onDenied
-    fixed-denied = either (reserves (nodeAt t (x .to)) (x .job) (x .replica) (x .thief)) _ t (f t) (fixed-noWork _ (x .to) (x .thief) ∙ fixed-returned t (x .to)) refl
+    fixed-denied = view-either f (reserves (nodeAt t (x .to)) (x .job) (x .replica) (x .thief)) _ t (f t) (fixed-noWork _ (x .to) (x .thief) ∙ fixed-returned t (x .to)) refl
 
     fixed-obsolete : f (onObsolete t x) ≡ f t
     unfolding onObsolete
-    fixed-obsolete = either (reserves (nodeAt t (x .to)) (x .job) (x .replica) (x .thief)) _ t (f t) (fixed-noWork _ (x .to) (x .thief) ∙ h .node t (x .to) _) refl
+    fixed-obsolete = view-either f (reserves (nodeAt t (x .to)) (x .job) (x .replica) (x .thief)) _ t (f t) (fixed-noWork _ (x .to) (x .thief) ∙ h .node t (x .to) _) refl
 
     fixed-schedule : f (onSchedule t x) ≡ f t
     unfolding onSchedule
@@ -110,18 +105,18 @@ module _ {A : Type 0} (f : Table → A) (h : Fixed f) where
 
     fixed-ack : f (onAck t x) ≡ f t
     unfolding onAck
-    fixed-ack = either (eqb (jobAt t (x .job) .state) 1 && eqb (jobAt t (x .job) .replica) (x .replica)) _ t (f t) (h .job t (x .job) _) refl
+    fixed-ack = view-either f (eqb (jobAt t (x .job) .state) 1 && eqb (jobAt t (x .job) .replica) (x .replica)) _ t (f t) (h .job t (x .job) _) refl
 
     fixed-result : f (onResult t x) ≡ f t
     unfolding onResult
-    fixed-result = either (eqb (jobAt t (x .job) .state) 1) _ t (f t) (h .job t (x .job) _) refl
+    fixed-result = view-either f (eqb (jobAt t (x .job) .state) 1) _ t (f t) (h .job t (x .job) _) refl
 
     pub fixed-handle : f (handle t x) ≡ f t
     unfolding handle
     fixed-handle =
-        either (eqb (x .kind) 1) _ _ (f t) fixed-fish (either (eqb (x .kind) 2) _ _ (f t) fixed-req (either (eqb (x .kind) 3) _ _ (f t) fixed-auth
-        (either (eqb (x .kind) 4) _ _ (f t) fixed-denied (either (eqb (x .kind) 5) _ _ (f t) fixed-obsolete (either (eqb (x .kind) 6) _ _ (f t) fixed-schedule
-        (either (eqb (x .kind) 7) _ _ (f t) fixed-ack (either (eqb (x .kind) 8) _ _ (f t) fixed-nowork (either (eqb (x .kind) 9) _ _ (f t) fixed-result refl))))))))
+        view-either f (eqb (x .kind) 1) _ _ (f t) fixed-fish (view-either f (eqb (x .kind) 2) _ _ (f t) fixed-req (view-either f (eqb (x .kind) 3) _ _ (f t) fixed-auth
+        (view-either f (eqb (x .kind) 4) _ _ (f t) fixed-denied (view-either f (eqb (x .kind) 5) _ _ (f t) fixed-obsolete (view-either f (eqb (x .kind) 6) _ _ (f t) fixed-schedule
+        (view-either f (eqb (x .kind) 7) _ _ (f t) fixed-ack (view-either f (eqb (x .kind) 8) _ _ (f t) fixed-nowork (view-either f (eqb (x .kind) 9) _ _ (f t) fixed-result refl))))))))
 
   -- ---- the events
 
@@ -160,11 +155,11 @@ module _ {A : Type 0} (f : Table → A) (h : Fixed f) where
 
   fixed-reclaimed : (t : Table) (a b : ℕ) → f (reclaimed t a b) ≡ f t
   unfolding reclaimed
-  fixed-reclaimed t a b = either (not (eqb (nodeAt t a .«reserved_replica») 0) && eqb (nodeAt t a .«reserved_thief») b) _ t (f t) (fixed-returned t a) refl
+  fixed-reclaimed t a b = view-either f (not (eqb (nodeAt t a .«reserved_replica») 0) && eqb (nodeAt t a .«reserved_thief») b) _ t (f t) (fixed-returned t a) refl
 
   fixed-unwaited : (t : Table) (a b : ℕ) → f (unwaited t a b) ≡ f t
   unfolding unwaited
-  fixed-unwaited t a b = either (eqb (nodeAt t a .waits) (b + 1)) _ t (f t) (h .node t a _) refl
+  fixed-unwaited t a b = view-either f (eqb (nodeAt t a .waits) (b + 1)) _ t (f t) (h .node t a _) refl
 
   fixed-quieted : (t : Table) (a b : ℕ) → f (quieted t a b) ≡ f t
   unfolding quieted
@@ -172,7 +167,7 @@ module _ {A : Type 0} (f : Table → A) (h : Fixed f) where
 
   fixed-one : (v : Job) (b j : ℕ) (t : Table) → f (reissueOne v b j t) ≡ f t
   unfolding reissueOne
-  fixed-one v b j t = either (lost v b) _ t (f t) (fixed-enter _ 0 j _ ∙ h .job t j _) refl
+  fixed-one v b j t = view-either f (lost v b) _ t (f t) (fixed-enter _ 0 j _ ∙ h .job t j _) refl
 
   turned : (t : Table) (b n : ℕ) → f (upTo (λ j u. reissueOne (jobAt t j) b j u) n t) ≡ f t
   unfolding upTo
@@ -181,7 +176,7 @@ module _ {A : Type 0} (f : Table → A) (h : Fixed f) where
 
   pub fixed-noticed : (t : Table) (a b : ℕ) → f (noticed t a b) ≡ f t
   unfolding noticed reissue
-  fixed-noticed t a b = either (eqb a 0) _ _ (f t) (turned (quieted t a b) b 64 ∙ fixed-quieted t a b) (fixed-quieted t a b)
+  fixed-noticed t a b = view-either f (eqb a 0) _ _ (f t) (turned (quieted t a b) b 64 ∙ fixed-quieted t a b) (fixed-quieted t a b)
 
 -- ---- steps and runs
 

@@ -1,8 +1,8 @@
 -- Sending a message and taking one off, for any property of a table and a list of messages: what the property must bear, so that it is kept.
 -- Assumes nothing.
-use mathlib.Core.Path.{_≡_}
+use mathlib.Core.Path.{_≡_, refl}
 use mathlib.Core.Logic.{_≢_}
-use mathlib.Core.Bool.{Bool}
+use mathlib.Core.Bool.{Bool, cond}
 use mathlib.Core.List.{List, [], _∷_, _++_}
 use Prim.Native.Nat.{ℕ, _<_}
 use native.Mathlib.Omega.{arith}
@@ -18,6 +18,15 @@ use Rattle.table.specs.Views.{noMessage, nodeAt, messageAt, flight, withMessage
 use Rattle.table.specs.Messages.{push, pull, send}
 use Rattle.table.proofs.Views.{Sized, length-flight}
 use Rattle.table.proofs.Messages.{flight-push, flight-pull, message-flight}
+
+-- a view of either of two tables
+pub view-either : {A : Type 0} (f : Table → A) (b : Bool) (u v : Table) (a : A) → f u ≡ a → f v ≡ a → f (cond b u v) ≡ a
+view-either f b u v a d e = byBool b (λ c. rw c d) (λ c. rw c e)
+
+-- a view that does not read the messages, after one is sent
+pub view-send : {A : Type 0} (f : Table → A) (t : Table) (x : Message) → ((n : ℕ) (l : List Message) → f (withMessages t n l) ≡ f t) → f (send t x) ≡ f t
+unfolding send push
+view-send f t x h = view-either f (eqb (nodeAt t (x .to) .alive) 1) _ t (f t) (h _ _) refl
 
 -- P does not read the slots of the table
 abbrev pub Apart : (Table → List Message → Type 0) → Type 0

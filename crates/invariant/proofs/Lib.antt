@@ -14,6 +14,7 @@ pub mod ConservedDeliver
 pub mod ConservedEvents
 pub mod ConservedDie
 pub mod ConservedNotice
+pub mod Alive
 pub mod SideFrame
 pub mod SideHandle
 pub mod SideEvents

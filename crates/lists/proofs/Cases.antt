@@ -47,6 +47,10 @@ pub or-right : (a b : Bool) → b ≡ true → a || b ≡ true
 or-right true b e = refl
 or-right false b e = e
 
+pub or-left-false : (a b : Bool) → a || b ≡ false → a ≡ false
+or-left-false true b e = e
+or-left-false false b e = refl
+
 pub or-elim : (a b : Bool) → a || b ≡ true → a ≡ false → b ≡ true
 or-elim true b e f = absurd (true≢false f)
 or-elim false b e f = e

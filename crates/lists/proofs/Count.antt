@@ -169,6 +169,12 @@ unfolding countTo
 countTo-same p q zero h = refl
 countTo-same p q (suc n) h = rw (h n (omega arith), countTo-same p q n (λ i k. h i (omega arith)))
 
+-- p holds of no index
+pub countTo-zero : (p : ℕ → Bool) (n : ℕ) → ((i : ℕ) → i < n → p i ≡ false) → countTo p n ≡ 0
+unfolding countTo
+countTo-zero p zero h = refl
+countTo-zero p (suc n) h = rw (h n (omega arith)) (countTo-zero p n (λ i k. h i (omega arith)))
+
 -- q holds of one index more
 pub countTo-one : (p q : ℕ → Bool) (n b : ℕ) → b < n → p b ≡ false → q b ≡ true → ((i : ℕ) → i < n → i ≢ b → p i ≡ q i) → countTo q n ≡ suc (countTo p n)
 unfolding countTo

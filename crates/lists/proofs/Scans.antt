@@ -240,7 +240,7 @@ module _ {A : Type 0} (f : ℕ → A) (n : ℕ) (d : A) where
   list-end m i out a b e = e ∙ ap (λ (k : ℕ). padTo n d (listOf f k)) (le-antisymm b a)
 
   -- what stands at an index
-  list-at : (m i : ℕ) (b : A) → i < m → getD (listOf f m) i b ≡ f i
+  pub list-at : (m i : ℕ) (b : A) → i < m → getD (listOf f m) i b ≡ f i
   unfolding listOf
   list-at zero i b h = absurd (not-suc-le-zero h)
   list-at (suc m) i b h =

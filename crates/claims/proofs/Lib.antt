@@ -1,0 +1,10 @@
+pub mod Runs
+pub mod Change
+pub mod Handled
+pub mod Steps
+pub mod History
+pub mod Deaths
+pub mod Shown
+pub mod Further
+pub mod Start
+pub mod Demand3

@@ -1,0 +1,69 @@
+-- Runs: a list of events after another, and what `Answered` says of an event wherever it stands in its list.
+-- Assumes nothing.
+use Prim.Native.Nat.{ℕ, _+_}
+use mathlib.Core.Path.{_≡_, refl, _∙_}
+use mathlib.Core.Logic.{_≢_}
+use mathlib.Core.Bool.{Bool, true, false, cond}
+use mathlib.Core.List.{List, [], _∷_, _++_}
+use lib.ListN.{length, getD}
+use Rattle.table.specs.declared.Table.{Table}
+use Rattle.table.specs.declared.Answer.{Answer}
+use Rattle.preservation.proofs.Answers.{Valid}
+use Rattle.dispatcher.specs.Step.{stepOf, runOf}
+use Rattle.dispatcher.proofs.Kept.{valid-passes, valid-run, step-answer}
+use Rattle.dispatcher.proofs.Nine.{answer-9}
+use Rattle.drain.proofs.Reach.{run-append}
+use Rattle.claims.specs.History.{answersOf, countOf, delivers, takenOff, resultsOf}
+use Rattle.claims.specs.Claims.{Answered}
+use Rattle.dispatcher.proofs.Events.{by-cases}
+
+pub run-more : (t : Table) (e : List ℕ) (es : List (List ℕ)) → runOf t (e ∷ es) ≡ runOf (stepOf t e .table) es
+unfolding runOf
+run-more t e es = refl
+
+answer-at : (t : Table) (es : List (List ℕ)) (e : List ℕ) (fs : List (List ℕ)) → getD (answersOf t (es ++ e ∷ fs)) (length es) 0 ≡ stepOf (runOf t es) e .number
+unfolding runOf answersOf
+answer-at t [] e fs = refl
+answer-at t (d ∷ es) e fs = answer-at (stepOf t d .table) es e fs
+
+-- a refused event returns the table as it was
+pub step-refused : (t : Table) (e : List ℕ) → stepOf t e .number ≢ 0 → stepOf t e .table ≡ t
+step-refused t e =
+    by-cases (λ x. x .number ≢ 0 → x .table ≡ t) t e
+    (λ n d f. refl)
+    (λ c d f. absurd (f refl))
+    (λ c d f. absurd (f refl))
+    (λ c d f. absurd (f refl))
+    (λ c d f. absurd (f refl))
+    (λ c d f. absurd (f refl))
+    (λ c d f. absurd (f refl))
+    (λ c d f. absurd (f refl))
+
+step-valid : (t : Table) (e : List ℕ) → Valid t → stepOf t e .number ≢ 9
+step-valid t e v = rw (step-answer t e (valid-passes t v)) (answer-9 t e)
+
+pub answered : (t : Table) → Valid t → (front : List (List ℕ)) (e : List ℕ) (back : List (List ℕ)) → Answered t front e back
+answered t v front e back = record {
+  number = answer-at t front e back;
+  next = run-append t front (e ∷ back) ∙ run-more (runOf t front) e back;
+  refused = step-refused (runOf t front) e;
+  valid = step-valid (runOf t front) e (valid-run t front v);
+}
+
+-- ---- one more event at the front
+
+pub count-more : (p : Table → List ℕ → Bool) (t : Table) (e : List ℕ) (es : List (List ℕ)) → countOf p t (e ∷ es) ≡ cond (p t e) 1 0 + countOf p (stepOf t e .table) es
+unfolding countOf
+count-more p t e es = refl
+
+pub count-none : (p : Table → List ℕ → Bool) (t : Table) → countOf p t [] ≡ 0
+unfolding countOf
+count-none p t = refl
+
+pub results-yes : (j : ℕ) (t : Table) (e : List ℕ) (es : List (List ℕ)) → delivers j t e ≡ true → resultsOf j t (e ∷ es) ≡ takenOff t e .price ∷ resultsOf j (stepOf t e .table) es
+unfolding resultsOf
+results-yes j t e es d = rw d refl
+
+pub results-no : (j : ℕ) (t : Table) (e : List ℕ) (es : List (List ℕ)) → delivers j t e ≡ false → resultsOf j t (e ∷ es) ≡ resultsOf j (stepOf t e .table) es
+unfolding resultsOf
+results-no j t e es d = rw d refl

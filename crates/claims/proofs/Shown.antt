@@ -1,0 +1,86 @@
+-- What the table after a list of events shows of one job, where the first event is given a table of the invariant that has the book's terms, no job
+-- admitted and no machine dead.
+-- Assumes nothing.
+use Prim.Native.Nat.{ℕ, _+_, _≤_, _<_}
+use mathlib.Core.Path.{_≡_, refl, sym, ap, _∙_}
+use mathlib.Core.List.{List}
+use native.Mathlib.Omega.{arith}
+use lib.ListN.{getD}
+use Rattle.lists.proofs.Scans.{list-at}
+use Rattle.pricer.specs.Price.{priceBits}
+use Rattle.book.specs.Parts.{entryCount, bondOf}
+use Rattle.table.specs.declared.Job.{Job}
+use Rattle.table.specs.declared.Table.{Table}
+use Rattle.table.specs.Views.{bondAt, jobAt}
+use Rattle.invariant.proofs.State.{Whole}
+use Rattle.invariant.proofs.Fixed.{Fixed, fixed-bond, fixed-admitted, fixed-stolen, fixed-delivered, fixed-started, fixed-finished, fixed-died, fixed-noticed}
+use Rattle.invariant.proofs.Keeps.{whole-run}
+use Rattle.dispatcher.specs.Step.{runOf}
+use Rattle.dispatcher.proofs.ByEvent.{Kept, by-run}
+use Rattle.claims.specs.History.{countOf, admits, kills, serialOf}
+use Rattle.claims.specs.Claims.{Shown}
+use Rattle.claims.proofs.History.{new-run}
+use Rattle.claims.proofs.Deaths.{deaths, deaths-run, bound-deaths}
+
+-- ---- what no update writes stays along a run
+
+fixed-kept : {A : Type 0} (f : Table → A) → Fixed f → (a : A) → Kept (λ t. f t ≡ a)
+fixed-kept f h a = record {
+  admits = λ t i p l e. fixed-admitted f h t i ∙ p;
+  steals = λ t i k p l m alive untold room. fixed-stolen f h t i k ∙ p;
+  delivers = λ t k p l. fixed-delivered f h t k ∙ p;
+  starts = λ t i k p l m alive idle some. fixed-started f h t i k ∙ p;
+  finishes = λ t i p l alive runs room. fixed-finished f h t i ∙ p;
+  dies = λ t i p l n alive. fixed-died f h t i ∙ p;
+  notices = λ t i k p l m alive dead new. fixed-noticed f h t i k ∙ p;
+}
+
+bond-run : (t : Table) (es : List (List ℕ)) (j : ℕ) → bondAt (runOf t es) j ≡ bondAt t j
+bond-run t es j = by-run (λ u. bondAt u j ≡ bondAt t j) (fixed-kept (λ u. bondAt u j) (fixed-bond j) (bondAt t j)) t es refl
+
+-- ---- one machine, bond after bond
+
+serial-at : (book : List ℕ) (j : ℕ) → j < entryCount book → getD (serialOf book) j 0 ≡ priceBits (bondOf book j)
+unfolding serialOf
+serial-at book j l = list-at (λ i. priceBits (bondOf book i)) 0 0 (entryCount book) j 0 l
+
+-- ---- the job
+
+-- what is asked of the table that the first event is given
+pub record Start (book : List ℕ) (t : Table) : Type 0 where
+  pub whole : Whole t
+  pub new : (j : ℕ) → j < 64 → jobAt t j .state ≡ 0
+  pub bond : (j : ℕ) → j < 64 → bondAt t j ≡ bondOf book j
+  pub none : deaths t ≡ 0
+  pub entries : entryCount book ≤ 64
+
+module _ (book : List ℕ) (t : Table) (es : List (List ℕ)) (s : Start book t) (j : ℕ) (entry : j < entryCount book) where
+  abbrev u : Table
+  u = runOf t es
+
+  w : Whole u
+  w = whole-run t es (s .whole)
+
+  l : j < 64
+  l = omega (arith, entry, s .entries)
+
+  right : jobAt u j .state ≡ 2 → jobAt u j .price ≡ getD (serialOf book) j 0
+  right e = w .prices .shown j l e ∙ ap priceBits (bond-run t es j ∙ s .bond j l) ∙ sym (serial-at book j entry)
+
+  few : jobAt u j .replica ≤ 1 + countOf kills t es
+  few = omega (arith, w .facts .job j l .replica, bound-deaths u w, deaths-run t es (s .whole), s .none)
+
+  pub shown : Shown book t es j (jobAt u j)
+  shown =
+      let r = new-run j l t es (s .whole) (s .new j l) in
+      let n : 0 + countOf (admits j) t es ≡ countOf (admits j) t es = omega arith in
+      record {
+        state = rw n at (r .state);
+        admitted = rw n at (r .admitted);
+        once = rw n at (r .once);
+        price = r .price;
+        serial = right;
+        replica = r .replica;
+        unnumbered = λ e. ap (λ (v : Job). v .replica) (w .facts .job j l .none e);
+        bounded = few;
+      }

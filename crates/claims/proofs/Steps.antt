@@ -1,0 +1,139 @@
+-- What one event, accepted or refused, does to one job of a table of the invariant.
+-- Assumes nothing.
+use Prim.Native.Nat.{ℕ, _<_}
+use mathlib.Core.Path.{_≡_, refl, sym, ap, _∙_}
+use mathlib.Core.Logic.{_≢_}
+use mathlib.Core.Bool.{Bool, false, _&&_, _||_}
+use mathlib.Core.List.{List}
+use native.Mathlib.Omega.{arith}
+use borrow.Author.Tests.{eqb-true, eq-eqb, ne-eqb}
+use lib.Dec.{eqb}
+use Rattle.lists.proofs.Cases.{byBool, byEq, and-left}
+use Rattle.table.specs.declared.Job.{Job}
+use Rattle.table.specs.declared.Table.{Table}
+use Rattle.table.specs.declared.Answer.{Answer}
+use Rattle.table.specs.Views.{jobAt, withJob}
+use Rattle.table.specs.Messages.{oldest}
+use Rattle.table.specs.Parts.{opened, accept, RESULT}
+use Rattle.table.proofs.Views.{views, job-same, job-other, job-node}
+use Rattle.events.specs.Events.{admitted, stolen, delivered, started, finished, died}
+use Rattle.events.specs.Notice.{lost, quieted, reissue, noticed}
+use Rattle.preservation.proofs.Sizes.{sized-quieted}
+use Rattle.invariant.proofs.State.{Whole}
+use Rattle.invariant.proofs.Frame.{job-enter}
+use Rattle.invariant.proofs.Died.{job-died}
+use Rattle.invariant.proofs.Quieted.{job-quieted}
+use Rattle.invariant.proofs.Reissued.{reissuedJob, job-reissue}
+use Rattle.dispatcher.specs.Step.{codeOf, firstOf, secondOf, stepOf}
+use Rattle.claims.specs.History.{admits, delivers, finds, takenOff}
+use Rattle.dispatcher.proofs.Events.{Admitting, by-cases}
+use Rattle.claims.proofs.Change.{same-job, Change, job-send}
+use Rattle.claims.proofs.Change.Change.{admission, finding, other}
+use Rattle.claims.proofs.Handled.{change-delivered}
+
+-- ---- the events that write no job
+
+module _ (t : Table) (j : ℕ) where
+  job-stolen : (a b : ℕ) → jobAt (stolen t a b) j ≡ jobAt t j
+  unfolding stolen
+  job-stolen a b = job-send _ _ j ∙ job-node t a _ j
+
+  job-started : (a b : ℕ) → jobAt (started t a b) j ≡ jobAt t j
+  unfolding started
+  job-started a b = simp views
+
+  job-finished : (a : ℕ) → jobAt (finished t a) j ≡ jobAt t j
+  unfolding finished
+  job-finished a = job-send _ _ j ∙ job-node t a _ j
+
+-- ---- those that do
+
+-- the root's part of Notice
+change-reissued : (u : Job) (b p : ℕ) → Change false false (lost u b) p u (reissuedJob u b)
+unfolding reissuedJob
+change-reissued u b p =
+    byBool (lost u b)
+    (λ e. rw (e, reissuedJob) (finding refl refl refl (eqb-true (u .state) 1 (and-left (eqb (u .state) 1) (eqb (u .holder) b || eqb (u .moving) 1 && eqb (u .thief) b) e)) refl))
+    (λ e. rw (e, reissuedJob) (other refl refl refl (same-job u u refl)))
+
+module _ (t : Table) (w : Whole t) (j : ℕ) (l : j < 64) where
+  abbrev v : Job
+  v = jobAt t j
+
+  job-admitted : (a : ℕ) → a < 64 → a ≡ j → jobAt (admitted t a) j ≡ opened 1
+  unfolding admitted
+  job-admitted a h e = job-enter (withJob t a (opened 1)) 0 a 1 j ∙ ap (λ (i : ℕ). jobAt (withJob t a (opened 1)) i) (sym e) ∙ job-same t (w .sized) a (opened 1) h
+
+  job-admitted-other : (a : ℕ) → a ≢ j → jobAt (admitted t a) j ≡ v
+  unfolding admitted
+  job-admitted-other a e = job-enter (withJob t a (opened 1)) 0 a 1 j ∙ job-other t a j (opened 1) (λ z. e (sym z))
+
+  change-admitted : (a : ℕ) (p : ℕ) → Admitting t a → Change (eqb a j) false false p v (jobAt (admitted t a) j)
+  change-admitted a p c =
+      byEq a j
+      (λ e. admission (eq-eqb a j e) refl refl (ap (λ (i : ℕ). jobAt t i .state) (sym e) ∙ c .new) (job-admitted a (omega (arith, c .entry, w .facts .entries-most)) e))
+      (λ e. other (ne-eqb a j e) refl refl (same-job v _ (job-admitted-other a e)))
+
+  -- what the root does with its jobs
+  change-reissue : (a b : ℕ) (p : ℕ) → Change false false (lost v b) p v (jobAt (reissue (quieted t a b) b) j)
+  change-reissue a b p =
+      let q = quieted t a b in
+      let new : jobAt (reissue q b) j ≡ reissuedJob v b = job-reissue q b (sized-quieted t (w .sized) a b) j l ∙ ap (λ (u : Job). reissuedJob u b) (job-quieted t a b j) in
+      rw new (change-reissued v b p)
+
+  change-noticed : (a b : ℕ) (p : ℕ) → Change false false (eqb a 0 && lost v b) p v (jobAt (noticed t a b) j)
+  unfolding noticed
+  change-noticed a b p =
+      byBool (eqb a 0)
+      (λ e. rw (e, noticed) (change-reissue a b p))
+      (λ e. rw (e, noticed) (other refl refl refl (same-job v _ (job-quieted t a b j))))
+
+-- ---- any event
+
+-- the event has another code
+not-code : (code k m : ℕ) (c : Bool) → code ≡ k → eqb k m ≡ false → eqb code m && c ≡ false
+not-code code k m c h n = let z : eqb code m ≡ false = ap (λ (i : ℕ). eqb i m) h ∙ n in rw z refl
+
+-- it has this one
+is-code : (code m : ℕ) (c d : Bool) → code ≡ m → c ≡ d → eqb code m && c ≡ d
+is-code code m c d h n = rw (eq-eqb code m h) n
+
+-- the same change, told by equal tests
+flags : {a d f a₁ d₁ f₁ : Bool} {p : ℕ} {v w : Job} → a ≡ a₁ → d ≡ d₁ → f ≡ f₁ → Change a₁ d₁ f₁ p v w → Change a d f p v w
+flags x y z c = rw (x, y, z) c
+
+module _ (t : Table) (w : Whole t) (e : List ℕ) (j : ℕ) (l : j < 64) where
+  abbrev Told : Answer → Type 0
+  Told x =
+      Change (eqb (x .number) 0 && (eqb (codeOf e) 1 && eqb (firstOf e) j))
+      (eqb (x .number) 0 && (eqb (codeOf e) 3 && (eqb (takenOff t e .kind) RESULT && eqb (takenOff t e .job) j)))
+      (eqb (x .number) 0 && (eqb (codeOf e) 7 && (eqb (firstOf e) 0 && lost (jobAt t j) (secondOf e))))
+      (takenOff t e .price) (jobAt t j) (jobAt (x .table) j)
+
+  -- an accepted event of another kind writes no job
+  quiet : (u : Table) (k : ℕ) → codeOf e ≡ k → eqb k 1 ≡ false → eqb k 3 ≡ false → eqb k 7 ≡ false → jobAt u j ≡ jobAt t j → Told (accept u)
+  quiet u k c n1 n3 n7 same =
+      other (not-code (codeOf e) k 1 _ c n1) (not-code (codeOf e) k 3 _ c n3) (not-code (codeOf e) k 7 _ c n7) (same-job (jobAt t j) (jobAt u j) same)
+
+  delivery : codeOf e ≡ 3 → oldest t (firstOf e) (secondOf e) < t .«in_flight» → Told (accept (delivered t (oldest t (firstOf e) (secondOf e))))
+  delivery c slot =
+      flags (not-code (codeOf e) 3 1 _ c refl) (is-code (codeOf e) 3 _ _ c refl) (not-code (codeOf e) 3 7 _ c refl)
+      (change-delivered t (oldest t (firstOf e) (secondOf e)) j w slot)
+
+  notice : codeOf e ≡ 7 → Told (accept (noticed t (firstOf e) (secondOf e)))
+  notice c =
+      flags (not-code (codeOf e) 7 1 _ c refl) (not-code (codeOf e) 7 3 _ c refl) (is-code (codeOf e) 7 _ _ c refl)
+      (change-noticed t w j l (firstOf e) (secondOf e) (takenOff t e .price))
+
+  pub change-step : Change (admits j t e) (delivers j t e) (finds j t e) (takenOff t e .price) (jobAt t j) (jobAt (stepOf t e .table) j)
+  change-step =
+      by-cases Told t e
+      (λ n d. rw (ne-eqb n 0 d) (other refl refl refl (same-job (jobAt t j) (jobAt t j) refl)))
+      (λ c d. flags (is-code (codeOf e) 1 _ _ c refl) (not-code (codeOf e) 1 3 _ c refl) (not-code (codeOf e) 1 7 _ c refl)
+      (change-admitted t w j l (firstOf e) (takenOff t e .price) d))
+      (λ c d. quiet (stolen t (firstOf e) (secondOf e)) 2 c refl refl refl (job-stolen t j (firstOf e) (secondOf e)))
+      (λ c d. delivery c (d .slot))
+      (λ c d. quiet (started t (firstOf e) (secondOf e)) 4 c refl refl refl (job-started t j (firstOf e) (secondOf e)))
+      (λ c d. quiet (finished t (firstOf e)) 5 c refl refl refl (job-finished t j (firstOf e)))
+      (λ c d. quiet (died t (firstOf e)) 6 c refl refl refl (job-died t (firstOf e) j))
+      (λ c d. notice c)

@@ -1,0 +1,66 @@
+-- Demand 3 of document 01: one claim about an accepted book and a whole list of events, each of them any list of bytes, run from the fresh table of the
+-- book. It is stated over definitions alone; its proof is `demand-3` in proofs/Demand3.antt.
+--
+--   openOf book .table      the fresh table of the book                       (opening)
+--   stepOf t e              the answer to event e on table t, and its table   (dispatcher)
+--   runOf t es              the table after the events es                     (dispatcher)
+--   answersOf, countOf, admits, kills, finds, resultsOf, stateAfter, serialOf (History)
+use Prim.Native.Nat.{ℕ, _+_, _≤_, _<_}
+use mathlib.Core.Path.{_≡_}
+use mathlib.Core.Logic.{_≢_}
+use mathlib.Core.Bool.{true}
+use mathlib.Core.List.{List, [], _∷_, _++_}
+use lib.ListN.{length, getD, replicate}
+use Rattle.book.specs.Parts.{entryCount}
+use Rattle.table.specs.declared.Job.{Job}
+use Rattle.table.specs.declared.Table.{Table}
+use Rattle.table.specs.declared.Answer.{Answer}
+use Rattle.table.specs.Views.{jobAt}
+use Rattle.opening.specs.Opening.{openOf}
+use Rattle.dispatcher.specs.Step.{stepOf, runOf}
+use Rattle.claims.specs.History.{answersOf, countOf, admits, kills, finds, resultsOf, stateAfter, serialOf, allFurther}
+
+-- "each event answered as document 01 says", wherever it stands in the list
+pub record Answered (fresh : Table) (front : List (List ℕ)) (e : List ℕ) (back : List (List ℕ)) : Type 0 where
+  -- its answer in the run is that of one event on the table that the events before it left
+  pub number : getD (answersOf fresh (front ++ e ∷ back)) (length front) 0 ≡ stepOf (runOf fresh front) e .number
+  -- the next event is given the table that it returned
+  pub next : runOf fresh (front ++ e ∷ back) ≡ runOf (stepOf (runOf fresh front) e .table) back
+  -- a refusal changes nothing
+  pub refused : stepOf (runOf fresh front) e .number ≢ 0 → stepOf (runOf fresh front) e .table ≡ runOf fresh front
+  -- and no table of a run is refused 9
+  pub valid : stepOf (runOf fresh front) e .number ≢ 9
+
+-- "The table returned after the list shows exactly this, job by job": v is job j in the table after the events
+pub record Shown (book : List ℕ) (fresh : Table) (events : List (List ℕ)) (j : ℕ) (v : Job) : Type 0 where
+  -- admitted exactly if an accepted event 1 named it, priced exactly if a RESULT for it was delivered
+  pub state : v .state ≡ stateAfter (countOf (admits j) fresh events) (resultsOf j fresh events)
+  -- no RESULT for a bond that is not admitted, and no bond admitted twice
+  pub admitted : resultsOf j fresh events ≢ [] → countOf (admits j) fresh events ≡ 1
+  pub once : countOf (admits j) fresh events ≤ 1
+  -- "its price is that of the first one delivered"; a job not priced has price bits 0
+  pub price : v .price ≡ getD (resultsOf j fresh events) 0 0
+  -- "every priced bond has the price that one machine gives it"
+  pub serial : v .state ≡ 2 → v .price ≡ getD (serialOf book) j 0
+  -- the replica number is "1 plus the root notices that found the job"
+  pub replica : v .state ≢ 0 → v .replica ≡ 1 + countOf (finds j) fresh events
+  -- "a job not admitted has replica 0"
+  pub unnumbered : v .state ≡ 0 → v .replica ≡ 0
+  -- "no replica number above 1 + accepted deaths"
+  pub bounded : v .replica ≤ 1 + countOf kills fresh events
+
+-- "at most 879 further accepted events (no admission, steal or death) price every admitted bond"
+pub record Further (t : Table) : Type 0 where
+  pub events : List (List ℕ)
+  pub few : length events ≤ 879
+  pub accepted : answersOf t events ≡ replicate (length events) 0
+  pub only : allFurther events ≡ true
+  pub priced : (j : ℕ) → jobAt t j .state ≢ 0 → jobAt (runOf t events) j .state ≡ 2
+
+pub record Demand3 (book : List ℕ) (events : List (List ℕ)) : Type 0 where
+  pub answers : (front : List (List ℕ)) (e : List ℕ) (back : List (List ℕ)) → events ≡ front ++ e ∷ back → Answered (openOf book .table) front e back
+  pub shown : (j : ℕ) → j < entryCount book → Shown book (openOf book .table) events j (jobAt (runOf (openOf book .table) events) j)
+  -- "a priced bond stays priced at that price", whatever events follow
+  pub stays : (later : List (List ℕ)) (j : ℕ) → jobAt (runOf (openOf book .table) events) j .state ≡ 2
+      → jobAt (runOf (openOf book .table) (events ++ later)) j ≡ jobAt (runOf (openOf book .table) events) j
+  pub further : Further (runOf (openOf book .table) events)

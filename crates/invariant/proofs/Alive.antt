@@ -1,0 +1,56 @@
+-- Who lives after each event but Die and Deliver: whoever did before.
+-- Assumes nothing.
+use Prim.Native.Nat.{ℕ, _+_, _<_}
+use mathlib.Core.Path.{_≡_, ap, _∙_}
+use lib.Dec.{eqb}
+use Rattle.lists.proofs.Cases.{byEq}
+use Rattle.table.specs.declared.Machine.{Machine}
+use Rattle.table.specs.declared.Message.{Message}
+use Rattle.table.specs.declared.Table.{Table}
+use Rattle.table.specs.Views.{nodeAt, poolAt, withNode, withPool}
+use Rattle.table.specs.Messages.{send}
+use Rattle.table.specs.Parts.{running}
+use Rattle.table.proofs.Views.{Sized, views, alive-node, node-messages}
+use Rattle.events.specs.Events.{admitted, stolen, started, finished}
+use Rattle.events.specs.Notice.{quieted, reissue, noticed}
+use Rattle.invariant.proofs.Flight.{view-either, view-send}
+use Rattle.invariant.proofs.Frame.{frame-refl, frame-node, frame-pool, node-enter}
+use Rattle.invariant.proofs.About.{alive-waiting, alive-running}
+use Rattle.invariant.proofs.Quieted.{node-quieted, node-quieted-other}
+use Rattle.invariant.proofs.Reissued.{node-reissue}
+use Rattle.invariant.proofs.ConservedNotice.{alive-quieted}
+
+module _ (t : Table) (z : Sized t) where
+  pub alive-admitted : (a m : ℕ) → nodeAt (admitted t a) m .alive ≡ nodeAt t m .alive
+  unfolding admitted
+  alive-admitted a m = simp (views, node-enter)
+
+  -- machine a's record is new, and a message is sent
+  alive-sent : (a : ℕ) (v : Machine) (x : Message) (m : ℕ) → a < 16 → v .alive ≡ nodeAt t a .alive → nodeAt (send (withNode t a v) x) m .alive ≡ nodeAt t m .alive
+  alive-sent a v x m l e =
+      let u = withNode t a v in
+      ap (λ (n : Machine). n .alive) (view-send (λ s. nodeAt s m) u x (λ n k. node-messages u n k m)) ∙ alive-node t a v z l e m
+
+  pub alive-stolen : (a b m : ℕ) → a < 16 → nodeAt (stolen t a b) m .alive ≡ nodeAt t m .alive
+  unfolding stolen
+  alive-stolen a b m l = alive-sent a _ _ m l (alive-waiting (nodeAt t a) (b + 1))
+
+  pub alive-started : (a b m : ℕ) → a < 16 → nodeAt (started t a b) m .alive ≡ nodeAt t m .alive
+  unfolding started
+  alive-started a b m l =
+      let u = withPool t a b 0 in
+      frame-node t u (frame-pool t t (frame-refl t z) a b 0) a (running (nodeAt t a) b (poolAt t a b)) l (alive-running (nodeAt t a) b (poolAt t a b)) .alive m
+
+  pub alive-finished : (a m : ℕ) → a < 16 → nodeAt (finished t a) m .alive ≡ nodeAt t m .alive
+  unfolding finished
+  alive-finished a m l = alive-sent a _ _ m l (alive-running (nodeAt t a) 0 0)
+
+  pub alive-noticed : (a b m : ℕ) → a < 16 → nodeAt (noticed t a b) m .alive ≡ nodeAt t m .alive
+  unfolding noticed
+  alive-noticed a b m l =
+      let q = quieted t a b in
+      let same : nodeAt q m .alive ≡ nodeAt t m .alive =
+      byEq m a
+      (λ e. rw e (ap (λ (n : Machine). n .alive) (node-quieted t a b z l) ∙ alive-quieted (nodeAt t a) b))
+      (λ e. ap (λ (n : Machine). n .alive) (node-quieted-other t a b m e)) in
+      view-either (λ u. nodeAt u m .alive) (eqb a 0) (reissue q b) q (nodeAt t m .alive) (ap (λ (n : Machine). n .alive) (node-reissue q b m) ∙ same) same
