@@ -5,9 +5,11 @@ use mathlib.Core.Logic.{_≢_}
 use mathlib.Core.Bool.{true, false}
 use mathlib.Core.List.{List}
 use native.Mathlib.Omega.{arith}
-use borrow.Author.Tests.{lt-ltb, le-ltb, eq-eqb, ne-eqb}
+use borrow.Author.Tests.{ltb-false, lt-ltb, le-ltb, eq-eqb, ne-eqb}
+use lib.Dec.{ltb}
 use lib.ListN.{length, take, drop}
 use lib.Seq.{take-all}
+use Rattle.lists.proofs.Cases.{byBool}
 use Rattle.text.specs.Text.{over, Written}
 use Rattle.text.proofs.Over.{then}
 use Rattle.lines.specs.Lines.{bookRefused, entryLine}
@@ -21,7 +23,7 @@ use Rattle.run.specs.declared.Ran.{Ran}
 use Rattle.run.specs.Run.{eventsIn, refusalsOf, Listed}
 use Rattle.page.specs.declared.Printed.{Printed}
 use Rattle.page.specs.Page.{eventsOf, entriesText, runText, pageOf, longest, bufferOf, printedOf}
-use Rattle.page.proofs.Longest.{lineOf}
+use Rattle.page.proofs.Longest.{lineOf, page-most}
 
 -- the number and the buffer that a page of r bytes leaves
 module _ (book events d : List ℕ) where
@@ -41,6 +43,14 @@ module _ (book events d : List ℕ) where
     pub page-buffer : e ≡ bufferOf book events d
     unfolding bufferOf
     page-buffer = rw (le-ltb (length d) longest h) (w .text)
+
+-- what is answered is within the buffer
+pub printed-fits : (book events d : List ℕ) → printedOf book events d .length ≤ length d
+unfolding printedOf
+printed-fits book events d =
+    byBool (ltb (length d) longest)
+    (λ e. rw (e, printedOf) (omega arith))
+    (λ e. let n = page-most book events in let l = ltb-false (length d) longest e in rw (e, printedOf) (omega arith))
 
 -- the page of a refused book, and that of an accepted one
 module _ (book events : List ℕ) {d : List ℕ} {e : List ℕ} {r : ℕ} (a : Answer) (q : a ≡ openOf book) where

@@ -1,0 +1,43 @@
+-- `console::print_from` is safe and ends: the page lies within the buffer. Assumes nothing.
+use mathlib.Core.Path.{ap}
+use native.Mathlib.Omega.{arith}
+use Rattle.page.specs.declared.Printed.{Printed}
+use Rattle.page.proofs.Pages.{printed-fits}
+use borrow.Author.Needs.{needs}
+use Rattle.console.proofs.print_from.Statement.{statement}
+use Rattle.console.proofs.print_from.Tie as tie
+
+page-requires : tie.Need-page-requires
+page-requires c κs = search needs
+
+sub-write-all : tie.Need-sub-write-all
+sub-write-all c = search needs
+
+part-write-all-start : tie.Need-part-write-all-start
+part-write-all-start c = search needs
+
+part-write-all-end : tie.Need-part-write-all-end
+part-write-all-end c =
+    let a = c .before .before .before .before .before .before .before .before .args in
+    omega (arith, printed-fits (a .book .now) (a .events .now) (a .out .now), ap (λ (p : Printed). p .length) (c .before .before .before .page .ensures .0))
+
+write-all-requires : tie.Need-write-all-requires
+write-all-requires c κs = search needs
+
+same-length : tie.Need-same-length
+same-length c = search needs
+
+returns : tie.Need-returns
+returns c = search needs
+
+pub print-from-spec : {M : Type 1} → statement M
+print-from-spec =
+    tie.close
+    (tie.spec
+    page-requires
+    sub-write-all
+    part-write-all-start
+    part-write-all-end
+    write-all-requires
+    same-length
+    returns)

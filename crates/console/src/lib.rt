@@ -1,0 +1,36 @@
+// The program's reading and writing. What it prints is a function of the two files alone (crate page).
+use libc::STDOUT_FILENO;
+ghost use Rattle.io.specs.Counts.{Counts};
+
+// Reads the file into buf as far as it goes, and answers how many bytes it read; a file that cannot be opened counts as empty.
+fn load(name: &[u8], buf: &mut [u8]) -> usize
+    ensures { λ r. ⌜ Counts r (now (buf .exit)) ⌝ }
+{
+    let fd = os::open_read(name);
+    if fd < 0 {
+        return 0;
+    }
+    let n = io::read_full(fd, buf);
+    libc::close(fd);
+    n
+}
+
+// Prints the page of a book and a list of events, by way of the buffer.
+fn print_from(book: &[u8], events: &[u8], out: &mut [u8]) {
+    let printed = page::page(book, events, out);
+    let length = printed.length;
+    io::write_all(STDOUT_FILENO, &out[0..length]);
+}
+
+// Prints the page of book.bin and events.bin in the folder where the program is run.
+//
+// An accepted book has at most 4 + 31 * 64 = 1,988 bytes. Of a longer file one byte more is read: 1 asks for fewer than 4 bytes and 2 looks at the first
+// 4 only, and any length above 1,988 differs from 4 + 31n, which is 3, so what was read has the number of the whole file.
+pub fn print_page() {
+    let mut book = [0u8; 1989];
+    let n = load(b"book.bin", &mut book);
+    let mut events = [0u8; 60000];
+    let m = load(b"events.bin", &mut events);
+    let mut out = [0u8; page::LONGEST];
+    print_from(&book[..n], &events[..m], &mut out);
+}
