@@ -17,7 +17,7 @@ fn load(name: &[u8], buf: &mut [u8]) -> usize
 
 // Prints the page of a book and a list of events, by way of the buffer.
 fn print_from(book: &[u8], events: &[u8], out: &mut [u8]) {
-    let printed = page::page(book, events, out);
+    let printed = promised::run_page(book, events, out);
     let length = printed.length;
     io::write_all(STDOUT_FILENO, &out[0..length]);
 }

@@ -7,8 +7,8 @@ use borrow.Author.Needs.{needs}
 use Rattle.console.proofs.print_from.Statement.{statement}
 use Rattle.console.proofs.print_from.Tie as tie
 
-page-requires : tie.Need-page-requires
-page-requires c κs = search needs
+run-page-requires : tie.Need-run-page-requires
+run-page-requires c κs = search needs
 
 sub-write-all : tie.Need-sub-write-all
 sub-write-all c = search needs
@@ -19,7 +19,7 @@ part-write-all-start c = search needs
 part-write-all-end : tie.Need-part-write-all-end
 part-write-all-end c =
     let a = c .before .before .before .before .before .before .before .before .args in
-    omega (arith, printed-fits (a .book .now) (a .events .now) (a .out .now), ap (λ (p : Printed). p .length) (c .before .before .before .page .ensures .0))
+    omega (arith, printed-fits (a .book .now) (a .events .now) (a .out .now), ap (λ (p : Printed). p .length) (c .before .before .before .run-page .ensures .0))
 
 write-all-requires : tie.Need-write-all-requires
 write-all-requires c κs = search needs
@@ -34,7 +34,7 @@ pub print-from-spec : {M : Type 1} → statement M
 print-from-spec =
     tie.close
     (tie.spec
-    page-requires
+    run-page-requires
     sub-write-all
     part-write-all-start
     part-write-all-end
