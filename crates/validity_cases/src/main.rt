@@ -62,14 +62,7 @@ fn try_cases(data: &[u8]) {
 }
 
 fn main() {
-    let name = b"cases.bin";
-    let fd = os::open_read(name);
-    if fd < 0 {
-        os::fail(name);
-        return;
-    }
     let mut buf = io::large_buffer();
-    let n = io::read_full(fd, &mut buf);
-    libc::close(fd);
+    let n = report::load(b"cases.bin", &mut buf);
     try_cases(&buf[..n]);
 }

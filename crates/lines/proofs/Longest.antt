@@ -1,0 +1,51 @@
+-- How long a line is at most. Assumes nothing.
+use Prim.Native.Nat.{ℕ, _+_, _≤_, _<_}
+use mathlib.Core.Path.{_≡_}
+use mathlib.Core.List.{List, _++_}
+use native.Mathlib.Omega.{arith}
+use lib.Dec.{eqb}
+use lib.ListN.{length, length-append}
+use Rattle.lists.proofs.Cases.{byBool}
+use Rattle.text.specs.Text.{ascii, decimal, hex16}
+use Rattle.text.proofs.Digits.{two-digits, five-digits, length-hex}
+use Rattle.table.specs.declared.Job.{Job}
+use Rattle.lines.specs.Lines.{numbered, bookRefused, eventRefused, notAdmitted, openReplica, priced, entryLine}
+
+pub numbered-most : (w : List ℕ) (n : ℕ) → n < 100 → length (numbered w n) ≤ length w + 3
+unfolding numbered
+numbered-most w n h = omega (arith, length-append (w ++ decimal n) (ascii "\n"), length-append w (decimal n), two-digits n h)
+
+pub book-most : (n : ℕ) → n < 100 → length (bookRefused n) ≤ 16
+unfolding bookRefused
+book-most n h = numbered-most (ascii "book refused ") n h
+
+pub event-most : (place n : ℕ) → n < 100 → length (eventRefused place n) ≤ 23
+unfolding eventRefused
+event-most place n h =
+    let e = ascii "event " in
+    let t = numbered (ascii " refused ") n in
+    omega (arith, length-append (e ++ decimal place) t, length-append e (decimal place), five-digits place, numbered-most (ascii " refused ") n h)
+
+-- the lines of an entry, by its state
+module _ (identifier : List ℕ) where
+  pub not-admitted-most : length (notAdmitted identifier) ≤ length identifier + 36
+  unfolding notAdmitted
+  not-admitted-most = omega (arith, length-append identifier (ascii " not admitted\n"))
+
+  pub open-most : (r : ℕ) → r < 100 → length (openReplica identifier r) ≤ length identifier + 36
+  unfolding openReplica
+  open-most r h = omega (arith, length-append identifier (numbered (ascii " open replica ") r), numbered-most (ascii " open replica ") r h)
+
+  pub priced-most : (p r : ℕ) → r < 100 → length (priced identifier p r) ≤ length identifier + 36
+  unfolding priced
+  priced-most p r h =
+      let w = ascii " priced " in
+      let t = numbered (ascii " replica ") r in
+      omega (arith, length-append (identifier ++ w ++ hex16 p) t, length-append (identifier ++ w) (hex16 p), length-append identifier w, length-hex p, numbered-most (ascii " replica ") r h)
+
+  pub entry-most : (v : Job) → v .replica < 100 → length (entryLine identifier v) ≤ length identifier + 36
+  unfolding entryLine
+  entry-most v h =
+      byBool (eqb (v .state) 0) (λ e. rw (e, entryLine) not-admitted-most)
+      (λ e. byBool (eqb (v .state) 1) (λ f. rw (e, f, entryLine) (open-most (v .replica) h))
+      (λ f. rw (e, f, entryLine) (priced-most (v .price) (v .replica) h)))

@@ -1,0 +1,46 @@
+-- `lines::put_event_refused` meets its contract. Assumes nothing.
+use native.Mathlib.Omega.{arith}
+use Rattle.text.proofs.Digits.{five-digits}
+use Rattle.text.proofs.Over.{then-two}
+use Rattle.lines.specs.Lines.{eventRefused}
+use Rattle.lines.proofs.Longest.{event-most}
+use borrow.Author.Needs.{needs}
+use Rattle.lines.proofs.put_event_refused.Statement.{statement}
+use Rattle.lines.proofs.put_event_refused.Tie as tie
+
+slice-aggregate-put : tie.Need-slice-aggregate-put
+slice-aggregate-put c = search needs
+
+put-requires : tie.Need-put-requires
+put-requires c κs = search needs
+
+put-decimal-requires : tie.Need-put-decimal-requires
+put-decimal-requires c κs = omega (arith, five-digits (c .before .before .before .before .before .before .before .args .place))
+
+slice-aggregate-put-numbered : tie.Need-slice-aggregate-put-numbered
+slice-aggregate-put-numbered c = search needs
+
+put-numbered-requires : tie.Need-put-numbered-requires
+put-numbered-requires c κs = (omega (arith, five-digits (c .before .before .before .before .before .before .before .before .before .before .before .before .args .place)), c .before .before .before .before .before .before .before .before .before .before .before .before .pre .1)
+
+same-length : tie.Need-same-length
+same-length c = search needs
+
+returns : tie.Need-returns
+unfolding eventRefused
+returns c =
+    let s = c .before .before .before .before .before .before .before .before .before .before .before .before .before .before .before in
+    let n = event-most (s .args .place) (s .args .n) (s .pre .1) in
+    then-two (c .before .before .before .before .before .before .before .before .before .before .before .put .ensures) (c .before .before .before .before .before .before .before .put-decimal .ensures) (c .before .before .put-numbered .ensures) (omega arith)
+
+pub put-event-refused-spec : {M : Type 1} → statement M
+put-event-refused-spec =
+    tie.close
+    (tie.spec
+    slice-aggregate-put
+    put-requires
+    put-decimal-requires
+    slice-aggregate-put-numbered
+    put-numbered-requires
+    same-length
+    returns)

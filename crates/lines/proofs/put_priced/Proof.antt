@@ -1,0 +1,52 @@
+-- `lines::put_priced` meets its contract. Assumes nothing.
+use native.Mathlib.Omega.{arith}
+use lib.ListN.{length-append}
+use Rattle.text.specs.Text.{ascii}
+use Rattle.text.proofs.Digits.{length-hex}
+use Rattle.text.proofs.Over.{then, then-two}
+use Rattle.lines.specs.Lines.{priced}
+use Rattle.lines.proofs.Longest.{priced-most}
+use borrow.Author.Needs.{needs}
+use Rattle.lines.proofs.put_priced.Statement.{statement}
+use Rattle.lines.proofs.put_priced.Tie as tie
+
+put-requires : tie.Need-put-requires
+put-requires c κs = search needs
+
+slice-aggregate-put : tie.Need-slice-aggregate-put
+slice-aggregate-put c = search needs
+
+put-requires-2 : tie.Need-put-requires-2
+put-requires-2 c κs = search needs
+
+put-hex-requires : tie.Need-put-hex-requires
+put-hex-requires c κs = search needs
+
+slice-aggregate-put-numbered : tie.Need-slice-aggregate-put-numbered
+slice-aggregate-put-numbered c = search needs
+
+put-numbered-requires : tie.Need-put-numbered-requires
+put-numbered-requires c κs = (omega (arith, length-hex (c .before .before .before .before .before .before .before .before .before .before .before .before .before .before .before .before .before .args .price)), c .before .before .before .before .before .before .before .before .before .before .before .before .before .before .before .before .before .pre .1)
+
+same-length : tie.Need-same-length
+same-length c = search needs
+
+returns : tie.Need-returns
+unfolding priced
+returns c =
+    let s = c .before .before .before .before .before .before .before .before .before .before .before .before .before .before .before .before .before .before .before .before in
+    let n = priced-most (s .args .identifier .now) (s .args .price) (s .args .replica) (s .pre .1) in
+    then-two (then (c .before .before .before .before .before .before .before .before .before .before .before .before .before .before .before .before .put .ensures) (c .before .before .before .before .before .before .before .before .before .before .before .put2 .ensures) (omega (arith, length-append (s .args .identifier .now) (ascii " priced ")))) (c .before .before .before .before .before .before .before .put-hex .ensures) (c .before .before .put-numbered .ensures) (omega arith)
+
+pub put-priced-spec : {M : Type 1} → statement M
+put-priced-spec =
+    tie.close
+    (tie.spec
+    put-requires
+    slice-aggregate-put
+    put-requires-2
+    put-hex-requires
+    slice-aggregate-put-numbered
+    put-numbered-requires
+    same-length
+    returns)

@@ -1,0 +1,88 @@
+-- How long the lines of a page are at most, and the page itself: length (pageOf book events) ≤ 463,072. Assumes nothing.
+use Prim.Native.Nat.{ℕ, _+_, _*_, _/_, _≤_, _<_}
+use mathlib.Core.Path.{_≡_, refl, sym, ap, _∙_}
+use mathlib.Core.Bool.{true, cond}
+use mathlib.Core.List.{List, [], _++_}
+use native.Mathlib.Omega.{arith}
+use borrow.Author.Tests.{eqb-true}
+use lib.Dec.{eqb, ltb}
+use lib.ListN.{length, take, drop, length-append, length-take}
+use Rattle.lists.proofs.Cases.{byBool}
+use Rattle.lists.proofs.Scans.{length-list}
+use Rattle.text.specs.Text.{joined}
+use Rattle.text.proofs.Over.{joined-most}
+use Rattle.lines.specs.Lines.{bookRefused, entryLine}
+use Rattle.lines.proofs.Longest.{book-most, entry-most}
+use Rattle.book.specs.Book.{identifierAt}
+use Rattle.book.specs.Parts.{entryCount, identifierOf}
+use Rattle.table.specs.declared.Table.{Table}
+use Rattle.table.specs.Views.{jobAt}
+use Rattle.table.proofs.Views.{Sized}
+use Rattle.validity.specs.Validity.{tableOk}
+use Rattle.preservation.proofs.Ok.{ok}
+use Rattle.preservation.proofs.Passed.{facts}
+use Rattle.opening.specs.Opening.{openOf}
+use Rattle.opening.proofs.Counts as counts
+use Rattle.dispatcher.specs.Step.{runOf}
+use Rattle.dispatcher.proofs.Kept.{run-ok, run-sized}
+use Rattle.run.specs.Run.{eventAt, eventCount, eventsIn, refusalsOf}
+use Rattle.run.proofs.Turns.{refusals-most}
+use Rattle.page.specs.Page.{eventsOf, entriesText, runText, pageOf, longest}
+use Rattle.page.proofs.Opened.{number-small, opened-passes, opened-sized}
+
+pub identifier-most : (book : List ℕ) (i : ℕ) → length (identifierOf book i) ≤ 12
+unfolding identifierOf identifierAt
+identifier-most book i =
+    byBool (ltb i (entryCount book))
+    (λ e. rw (e, identifierOf) (omega (arith, length-take 12 (drop (4 + 12 * i) book))))
+    (λ e. rw (e, identifierOf) (omega arith))
+
+-- ---- the entries
+
+-- the line of entry i
+abbrev pub lineOf : List ℕ → Table → ℕ → List ℕ
+lineOf book t i = entryLine (identifierOf book i) (jobAt t i)
+
+module _ (book : List ℕ) (t : Table) (s : Sized t) (h : tableOk t ≡ true) where
+  pub replica-small : (i : ℕ) → i < 64 → jobAt t i .replica < 100
+  replica-small i l = let f = facts t s (ok t s h) in omega (arith, f .job i l .replica, f .bound-most)
+
+  pub line-most : (i : ℕ) → i < 64 → length (lineOf book t i) ≤ 48
+  line-most i l = omega (arith, entry-most (identifierOf book i) (jobAt t i) (replica-small i l), identifier-most book i)
+
+  pub lines-most : (n : ℕ) → n ≤ 64 → length (joined (lineOf book t) n) ≤ n * 48
+  lines-most n l = joined-most (lineOf book t) 48 n (λ i k. line-most i (omega arith))
+
+  pub entries-most : length (entriesText book t) ≤ 3072
+  unfolding entriesText
+  entries-most = omega (arith, lines-most (entryCount book) (counts.entries-most book), counts.entries-most book)
+
+-- ---- the events
+
+pub listed-most : (t : Table) (s : List ℕ) → length s ≤ 60000 → length (refusalsOf 1 t (eventsIn s)) ≤ 460000
+unfolding eventsIn
+listed-most t s h =
+    omega (arith, refusals-most 1 t (eventsIn s), length-list (eventAt s) 0 [] (eventCount s))
+
+-- ---- the page
+
+pub run-most : (book : List ℕ) (t : Table) (s : List ℕ) → Sized t → tableOk t ≡ true → length s ≤ 60000 → length (runText book t (eventsIn s)) ≤ longest
+unfolding runText
+run-most book t s z h l =
+    let es = eventsIn s in
+    omega (
+      arith,
+      length-append (refusalsOf 1 t es) (entriesText book (runOf t es)),
+      listed-most t s l,
+      entries-most book (runOf t es) (run-sized t es z) (run-ok t es z h),
+    )
+
+pub page-most : (book events : List ℕ) → length (pageOf book events) ≤ longest
+unfolding pageOf eventsOf
+page-most book events =
+    byBool (eqb (openOf book .number) 0)
+    (λ e.
+    let n : openOf book .number ≡ 0 = eqb-true _ _ e in
+    let l : length (take 60000 events) ≤ 60000 = omega (arith, length-take 60000 events) in
+    rw (e, pageOf) (run-most book (openOf book .table) (take 60000 events) (opened-sized book n) (opened-passes book n) l))
+    (λ e. let m = book-most (openOf book .number) (omega (arith, number-small book)) in rw (e, pageOf) (omega arith))

@@ -1,0 +1,76 @@
+-- What opening a book gives the page: a number of one digit, and for an accepted book a table that passes check 9. Assumes nothing.
+use Prim.Native.Nat.{ℕ, _+_, _*_, _%_, _≤_}
+use mathlib.Core.Path.{_≡_, refl, sym, ap, _∙_}
+use mathlib.Core.Bool.{Bool, true, false, not, cond}
+use mathlib.Core.List.{List}
+use native.Mathlib.Omega.{arith}
+use borrow.Author.Tests.{eq-eqb, ne-eqb, eqb-true}
+use lib.Dec.{eqb, ltb}
+use lib.ListN.{length}
+use Rattle.lists.proofs.Cases.{byBool, byEq}
+use Rattle.isin.specs.Isin.{formed, total, verdictOf}
+use Rattle.term.specs.Term.{termOf}
+use Rattle.term.specs.declared.Reading.{Reading}
+use Rattle.term.specs.declared.Reading.the-variants.{Faulty, Valid}
+use Rattle.book.specs.Book.{machinesOf, entriesOf, sizesInRange, identifierAt, termAt, repeated, termFault, faultAt, lowestFaulty, lowestFault, bookVerdict}
+use Rattle.table.specs.declared.Table.{Table}
+use Rattle.table.specs.declared.Answer.{Answer}
+use Rattle.table.proofs.Views.{Sized}
+use Rattle.validity.specs.Validity.{tableOk}
+use Rattle.opening.specs.Opening.{freshOf, openOf}
+use Rattle.opening.proofs.Shown.{sized-fresh}
+use Rattle.fresh.proofs.Passes.{fresh-passes}
+
+-- ---- the numbers of a book
+
+either : (b : Bool) (x y : ℕ) → x ≤ 7 → y ≤ 7 → cond b x y ≤ 7
+either true x y p q = p
+either false x y p q = q
+
+identifier-small : (s : List ℕ) → verdictOf s ≤ 7
+unfolding verdictOf
+identifier-small s = either (not (formed s)) 4 _ (omega arith) (either (eqb (total s % 10) 0) 0 5 (omega arith) (omega arith))
+
+term-small : (r : Reading) → termFault r ≤ 7
+term-small Faulty = omega arith
+term-small (Valid b) = omega arith
+
+fault-small : (s : List ℕ) (n i : ℕ) → faultAt s n i ≤ 7
+unfolding faultAt
+fault-small s n i =
+    either (not (eqb (verdictOf (identifierAt s i)) 0)) (verdictOf (identifierAt s i)) _ (identifier-small (identifierAt s i))
+    (either (repeated s i) 6 (termFault (termOf (termAt s n i))) (omega arith) (term-small (termOf (termAt s n i))))
+
+lowest-small : (s : List ℕ) (n : ℕ) → lowestFault s n ≤ 7
+unfolding lowestFault
+lowest-small s n = either (ltb (lowestFaulty s n) n) (faultAt s n (lowestFaulty s n)) 0 (fault-small s n (lowestFaulty s n)) (omega arith)
+
+verdict-small : (s : List ℕ) → bookVerdict s ≤ 7
+unfolding bookVerdict
+verdict-small s =
+    either (ltb (length s) 4) 1 _ (omega arith)
+    (either (not (sizesInRange (machinesOf s) (entriesOf s))) 2 _ (omega arith)
+    (either (not (eqb (length s) (4 + 31 * entriesOf s))) 3 (lowestFault s (entriesOf s)) (omega arith) (lowest-small s (entriesOf s))))
+
+-- ---- opening it
+
+module _ (s : List ℕ) where
+  opened-number : openOf s .number ≡ bookVerdict s
+  unfolding openOf
+  opened-number =
+      byBool (eqb (bookVerdict s) 0)
+      (λ e. rw (e, openOf) (sym (eqb-true (bookVerdict s) 0 e)))
+      (λ e. rw (e, openOf) refl)
+
+  pub number-small : openOf s .number ≤ 7
+  number-small = rw opened-number (verdict-small s)
+
+  opened-table : bookVerdict s ≡ 0 → openOf s .table ≡ freshOf s
+  unfolding openOf
+  opened-table e = rw (eq-eqb (bookVerdict s) 0 e, openOf) refl
+
+  pub opened-passes : openOf s .number ≡ 0 → tableOk (openOf s .table) ≡ true
+  opened-passes e = let v = sym opened-number ∙ e in ap tableOk (opened-table v) ∙ fresh-passes s v
+
+  pub opened-sized : openOf s .number ≡ 0 → Sized (openOf s .table)
+  opened-sized e = rw (opened-table (sym opened-number ∙ e)) (sized-fresh s)

@@ -1,0 +1,74 @@
+-- What the function page leaves, by the length of its buffer and the number of the book. Assumes nothing.
+use Prim.Native.Nat.{ℕ, _+_, _-_, _≤_, _<_}
+use mathlib.Core.Path.{_≡_, refl, sym, ap, _∙_}
+use mathlib.Core.Logic.{_≢_}
+use mathlib.Core.Bool.{true, false}
+use mathlib.Core.List.{List}
+use native.Mathlib.Omega.{arith}
+use borrow.Author.Tests.{lt-ltb, le-ltb, eq-eqb, ne-eqb}
+use lib.ListN.{length, take, drop}
+use lib.Seq.{take-all}
+use Rattle.text.specs.Text.{over, Written}
+use Rattle.text.proofs.Over.{then}
+use Rattle.lines.specs.Lines.{bookRefused, entryLine}
+use Rattle.book.specs.Parts.{identifierOf}
+use Rattle.table.specs.declared.Table.{Table}
+use Rattle.table.specs.declared.Answer.{Answer}
+use Rattle.table.specs.Views.{jobAt}
+use Rattle.opening.specs.Opening.{openOf}
+use Rattle.dispatcher.specs.Step.{runOf}
+use Rattle.run.specs.declared.Ran.{Ran}
+use Rattle.run.specs.Run.{eventsIn, refusalsOf, Listed}
+use Rattle.page.specs.declared.Printed.{Printed}
+use Rattle.page.specs.Page.{eventsOf, entriesText, runText, pageOf, longest, bufferOf, printedOf}
+use Rattle.page.proofs.Longest.{lineOf}
+
+-- the number and the buffer that a page of r bytes leaves
+module _ (book events d : List ℕ) where
+  pub short-printed : length d < longest → record { written = false; length = 0 } ≡ printedOf book events d
+  unfolding printedOf
+  short-printed h = rw (lt-ltb (length d) longest h)
+
+  pub short-buffer : length d < longest → d ≡ bufferOf book events d
+  unfolding bufferOf
+  short-buffer h = rw (lt-ltb (length d) longest h)
+
+  module _ (h : longest ≤ length d) (e : List ℕ) (r : ℕ) (w : Written d 0 (pageOf book events) e r) where
+    pub page-printed : record { written = true; length = r } ≡ printedOf book events d
+    unfolding printedOf
+    page-printed = rw (le-ltb (length d) longest h) (ap (λ (n : ℕ). record { written = true; length = n }) (w .end ∙ omega arith))
+
+    pub page-buffer : e ≡ bufferOf book events d
+    unfolding bufferOf
+    page-buffer = rw (le-ltb (length d) longest h) (w .text)
+
+-- the page of a refused book, and that of an accepted one
+module _ (book events : List ℕ) {d : List ℕ} {e : List ℕ} {r : ℕ} (a : Answer) (q : a ≡ openOf book) where
+  pub refused-written : a .number ≢ 0 → Written d 0 (bookRefused (a .number)) e r → Written d 0 (pageOf book events) e r
+  unfolding pageOf
+  refused-written h w =
+      let n : openOf book .number ≢ 0 = λ z. h (ap (λ (x : Answer). x .number) q ∙ z) in
+      rw (ne-eqb (openOf book .number) 0 n, pageOf) (rw q at w)
+
+  pub accepted-written : (s : List ℕ) → a .number ≡ 0 → s ≡ take 60000 events → Written d 0 (runText book (a .table) (eventsIn s)) e r
+      → Written d 0 (pageOf book events) e r
+  unfolding pageOf eventsOf
+  accepted-written s h f w =
+      let n : openOf book .number ≡ 0 = ap (λ (x : Answer). x .number) (sym q) ∙ h in
+      rw (eq-eqb (openOf book .number) 0 n, pageOf) (rw (f, q) at w)
+
+-- all bytes, where there are fewer than 60,000
+pub few-bytes : (s : List ℕ) → length s < 60000 → take (length s - 0) s ≡ take 60000 s
+few-bytes s h = take-all (length s - 0) s (omega arith) ∙ sym (take-all 60000 s (omega arith))
+
+-- the line of an entry, whose identifier is that part of the book
+pub line-written : (book : List ℕ) (t : Table) (i : ℕ) (identifier : List ℕ) {e : List ℕ} {m : ℕ} {f : List ℕ} {r : ℕ} → identifier ≡ identifierOf book i
+    → Written e m (entryLine identifier (jobAt t i)) f r → Written e m (lineOf book t i) f r
+line-written book t i identifier q w = rw q at w
+
+-- the lines of the entries after those of the refused events
+pub run-written : (book : List ℕ) (t : Table) (es : List (List ℕ)) {d : List ℕ} {e : List ℕ} {f : List ℕ} {r : Ran} {n : ℕ}
+    → Listed d 0 (refusalsOf 1 t es) (runOf t es) e r → Written e (r .length) (entriesText book (r .table)) f n
+    → length (runText book t es) ≤ length d → Written d 0 (runText book t es) f n
+unfolding runText
+run-written book t es p q h = then (p .lines) (rw (p .table) at q) (omega arith)

@@ -1,0 +1,107 @@
+-- `page::put_entries` meets its contract. The invariant of its loop: the lines of the first i entries are written. Assumes nothing.
+use borrow.Author.Needs.{needs}
+use mathlib.Core.Path.{_≡_, refl, sym, ap, _∙_}
+use Prim.Native.Nat.{_+_, _-_, _≤_}
+use native.Mathlib.Omega.{arith}
+use lib.ListN.{length}
+use Rattle.text.specs.Text.{joined, Written}
+use Rattle.text.proofs.Over.{joined-none, joined-more}
+use Rattle.book.specs.Parts.{entryCount}
+use Rattle.table.specs.Views.{jobAt}
+use Rattle.table.proofs.Long.{long}
+use Rattle.opening.proofs.Counts as counts
+use Rattle.run.proofs.Events.{passed-sized}
+use Rattle.page.specs.Page.{entriesText}
+use Rattle.page.proofs.Longest.{lineOf, identifier-most, replica-small, lines-most}
+use Rattle.page.proofs.Pages.{line-written}
+use Rattle.page.proofs.put_entries.Statement.{statement}
+use Rattle.page.proofs.put_entries.Tie as tie
+
+abbrev Inv-loop : tie.InvT-loop
+Inv-loop book out₀ at t n end₀ i₀ out end i = (i ≤ n) × (length out ≡ length out₀) × Written out₀ at (joined (lineOf book t) i) out end
+
+abbrev μ-loop : tie.MeasureT-loop
+μ-loop book out₀ at t n end₀ i₀ out end i = n - i
+
+entries-requires : tie.Need-entries-requires Inv-loop μ-loop
+entries-requires c κs = search needs
+
+cast-n : tie.Need-cast-n Inv-loop μ-loop
+cast-n c = search needs
+
+loop-holds : tie.Need-loop-holds Inv-loop μ-loop
+loop-holds c = let a = c .before .before .before .args in (omega arith, refl, joined-none (lineOf (a .book .now) (a .t2)) (a .out .now) (a .at) (omega arith))
+
+mul-v : tie.Need-mul-v Inv-loop μ-loop
+mul-v c = omega (arith, counts.entries-most (c .before .before .before .before .before .args .book .now))
+
+element-copy-out-v : tie.Need-element-copy-out-v Inv-loop μ-loop
+element-copy-out-v c = omega (arith, counts.entries-most (c .before .before .before .before .before .args .book .now))
+
+identifier-requires : tie.Need-identifier-requires Inv-loop μ-loop
+identifier-requires c κs = search needs
+
+put-entry-requires : tie.Need-put-entry-requires Inv-loop μ-loop
+unfolding jobAt
+put-entry-requires c κs =
+    let s = c .before .before .before .before .before .before .before .before in
+    let a = s .args in
+    let l = c .before .before .before .before .loop in
+    let z = passed-sized (a .t2) (long (a .t2) _ (s .good .1 .0)) (s .pre .0) in
+    let n = counts.entries-most (a .book .now) in
+    let i = ap length (c .identifier .ensures) in (
+      omega (arith, i, identifier-most (a .book .now) (l .i), l .inv .2 .end, lines-most (a .book .now) (a .t2) z (s .pre .0) (l .i) (omega arith)),
+      replica-small (a .book .now) (a .t2) z (s .pre .0) (l .i) (omega arith),
+    )
+
+add-i : tie.Need-add-i Inv-loop μ-loop
+add-i c = search needs
+
+loop-less : tie.Need-loop-less Inv-loop μ-loop
+loop-less c = search needs
+
+loop-again : tie.Need-loop-again Inv-loop μ-loop
+unfolding jobAt
+loop-again c =
+    let s = c .before .before .before .before .before .before .before .before .before .before .before in
+    let a = s .args in
+    let l = c .before .before .before .before .before .before .before .loop in
+    let w = c .before .before .put-entry in
+    let i = c .before .before .before .identifier in
+    let z = passed-sized (a .t2) (long (a .t2) _ (s .good .1 .0)) (s .pre .0) in
+    let n = counts.entries-most (a .book .now) in (
+      omega arith,
+      w .kept .0 ∙ l .inv .1,
+      joined-more (lineOf (a .book .now) (a .t2)) (l .inv .2) (line-written (a .book .now) (a .t2) (l .i) (i .result .now) (i .ensures) (w .ensures))
+          (omega (arith, s .pre .1, lines-most (a .book .now) (a .t2) z (s .pre .0) (l .i + 1) (omega arith))),
+    )
+
+same-length : tie.Need-same-length Inv-loop μ-loop
+same-length c = search needs
+
+returns : tie.Need-returns Inv-loop μ-loop
+unfolding entriesText
+returns c =
+    let a = c .before .before .before .before .before .args in
+    let l = c .before .loop in
+    let e : l .i ≡ entryCount (a .book .now) = omega arith in
+    rw e at (l .inv .2)
+
+pub put-entries-spec : {M : Type 1} → statement M
+put-entries-spec =
+    tie.close
+    (tie.spec
+    Inv-loop
+    μ-loop
+    entries-requires
+    cast-n
+    loop-holds
+    mul-v
+    element-copy-out-v
+    identifier-requires
+    put-entry-requires
+    add-i
+    loop-less
+    loop-again
+    same-length
+    returns)

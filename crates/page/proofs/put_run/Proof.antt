@@ -1,0 +1,36 @@
+-- `page::put_run` meets its contract. Assumes nothing.
+use native.Mathlib.Omega.{arith}
+use Rattle.table.proofs.Long.{long}
+use Rattle.run.specs.Run.{eventsIn}
+use Rattle.run.proofs.Events.{passed-sized, run-passes}
+use Rattle.page.proofs.Longest.{listed-most, run-most}
+use Rattle.page.proofs.Pages.{run-written}
+use borrow.Author.Needs.{needs}
+use Rattle.page.proofs.put_run.Statement.{statement}
+use Rattle.page.proofs.put_run.Tie as tie
+
+run-requires : tie.Need-run-requires
+run-requires c κs = search needs
+
+put-entries-requires : tie.Need-put-entries-requires
+put-entries-requires c κs =
+    let s = c .before .before .before .before .before .before .before .before .before in
+    let a = s .args in
+    let r = c .before .before .before .before .run in (
+      rw (r .ensures .table) (run-passes (a .t) (eventsIn (a .events .now)) (long (a .t) _ (s .good .1 .0)) (s .pre .0)),
+      omega (arith, r .ensures .lines .end, listed-most (a .t) (a .events .now) (s .pre .1 .0), s .pre .1 .1),
+    )
+
+same-length : tie.Need-same-length
+same-length c = search needs
+
+returns : tie.Need-returns
+returns c =
+    let s = c .before .before .before .before .before .before .before .before .before .before .before .before in
+    let a = s .args in
+    let z = passed-sized (a .t) (long (a .t) _ (s .good .1 .0)) (s .pre .0) in
+    let n = run-most (a .book .now) (a .t) (a .events .now) z (s .pre .0) (s .pre .1 .0) in
+    run-written (a .book .now) (a .t) (eventsIn (a .events .now)) (c .before .before .before .before .before .before .before .run .ensures) (c .before .before .put-entries .ensures) (omega (arith, n, s .pre .1 .1))
+
+pub put-run-spec : {M : Type 1} → statement M
+put-run-spec = tie.close (tie.spec run-requires put-entries-requires same-length returns)

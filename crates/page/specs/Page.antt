@@ -1,0 +1,49 @@
+-- Document 01, "The program's page": the text that is printed for a book and a list of events. Definitions only.
+use Prim.Native.Nat.{ℕ}
+use mathlib.Core.Path.{_≡_}
+use mathlib.Core.Bool.{true, false, cond}
+use mathlib.Core.List.{List, _++_}
+use lib.Dec.{eqb, ltb}
+use lib.ListN.{length, take}
+use Rattle.text.specs.Text.{over, joined}
+use Rattle.lines.specs.Lines.{bookRefused, entryLine}
+use Rattle.book.specs.Parts.{entryCount, identifierOf}
+use Rattle.table.specs.declared.Table.{Table}
+use Rattle.table.specs.Views.{jobAt}
+use Rattle.opening.specs.Opening.{openOf}
+use Rattle.dispatcher.specs.Step.{runOf}
+use Rattle.run.specs.Run.{eventsIn, refusalsOf}
+use Rattle.page.specs.declared.Printed.{Printed}
+
+-- "events.bin (at most 60,000 bytes; later ones are not read)"
+unfoldable pub eventsOf : List ℕ → List (List ℕ)
+eventsOf file = eventsIn (take 60000 file)
+
+-- "Then each entry prints a line": by the table that the run ended with
+unfoldable pub entriesText : List ℕ → Table → List ℕ
+entriesText book t = joined (λ i. entryLine (identifierOf book i) (jobAt t i)) (entryCount book)
+
+-- "Otherwise each refused event prints a line .. Then each entry prints a line": the events run from the table t, the first of them has place 1
+unfoldable pub runText : List ℕ → Table → List (List ℕ) → List ℕ
+runText book t events = refusalsOf 1 t events ++ entriesText book (runOf t events)
+
+-- "A refused book prints "book refused" and the number, and nothing more. Otherwise .."
+unfoldable pub pageOf : List ℕ → List ℕ → List ℕ
+pageOf book events =
+    cond (eqb (openOf book .number) 0) (runText book (openOf book .table) (eventsOf events))
+    (bookRefused (openOf book .number))
+
+-- no page is longer (proofs/Longest.antt): 20,000 events of at most 23 bytes each, 64 entries of at most 48
+abbrev pub longest : ℕ
+longest = 463072
+
+-- what the function page leaves: a buffer that the longest page does not fit into is refused and unchanged; otherwise the page stands at its front, and
+-- the rest of it is unchanged
+unfoldable pub bufferOf : List ℕ → List ℕ → List ℕ → List ℕ
+bufferOf book events out = cond (ltb (length out) longest) out (over out 0 (pageOf book events))
+
+-- what it answers
+unfoldable pub printedOf : List ℕ → List ℕ → List ℕ → Printed
+printedOf book events out =
+    cond (ltb (length out) longest) (record { written = false; length = 0 })
+    (record { written = true; length = length (pageOf book events) })

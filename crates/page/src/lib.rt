@@ -1,0 +1,86 @@
+// The page as a function on slices: a book and a list of events in, text out.
+ghost use mathlib.Core.Path.{_≡_};
+ghost use mathlib.Core.Bool.{true};
+ghost use Prim.Native.Nat.{_+_, _≤_};
+ghost use lib.ListN.{length, take};
+ghost use Rattle.text.specs.Text.{Written};
+ghost use Rattle.validity.specs.Validity.{tableOk};
+ghost use Rattle.run.specs.Run.{eventsIn};
+ghost use Rattle.page.specs.Page.{entriesText, runText, bufferOf, printedOf};
+use table::Table;
+
+// No page is longer.
+pub const LONGEST: usize = 463072;
+
+// Whether the buffer was long enough, and the length of the page, 0 where it was not.
+pub struct Printed {
+    pub written: bool,
+    pub length: usize,
+}
+
+// The lines of the entries, by a table that passes check 9.
+fn put_entries(book: &[u8], t: Table, out: &mut [u8], at: usize) -> usize
+    requires { ⌜ tableOk t ≡ true ⌝ }
+    requires { ⌜ at + 3072 ≤ length (now out) ⌝ }
+    ensures { λ r. ⌜ Written (now (out .entry)) at (entriesText (now (book .entry)) t) (now (out .exit)) r ⌝ }
+{
+    let n = book::entries(book) as usize;
+    let mut end = at;
+    let mut i: usize = 0;
+    while i < n {
+        let v = t.jobs[i];
+        end = lines::put_entry(out, end, book::identifier(book, i), v);
+        i += 1;
+    }
+    end
+}
+
+// The page of an accepted book, whose fresh table is t.
+fn put_run(book: &[u8], t: Table, events: &[u8], out: &mut [u8]) -> usize
+    requires { ⌜ tableOk t ≡ true ⌝ }
+    requires { ⌜ (length (now events) ≤ 60000) × (463072 ≤ length (now out)) ⌝ }
+    ensures { λ r. ⌜ Written (now (out .entry)) 0 (runText (now (book .entry)) t (eventsIn (now (events .entry)))) (now (out .exit)) r ⌝ }
+{
+    let ran = run::run(t, events, out);
+    let u = ran.table;
+    let at = ran.length;
+    put_entries(book, u, out, at)
+}
+
+// At most 60,000 bytes count.
+fn first_bytes(events: &[u8]) -> &[u8]
+    ensures { λ r. ⌜ now r ≡ take 60000 (now (events .entry)) ⌝ }
+{
+    if events.len() < 60000 {
+        return &events[0..];
+    }
+    &events[0..60000]
+}
+
+// Writes the page of a book and a list of events to the front of the buffer, which is refused and left unchanged where it is shorter than LONGEST.
+pub fn page(book: &[u8], events: &[u8], out: &mut [u8]) -> Printed
+    ensures { λ r. ⌜ r ≡ printedOf (now (book .entry)) (now (events .entry)) (now (out .entry)) ⌝ }
+    ensures { λ _. ⌜ now (out .exit) ≡ bufferOf (now (book .entry)) (now (events .entry)) (now (out .entry)) ⌝ }
+{
+    if out.len() < LONGEST {
+        return Printed {
+            written: false,
+            length: 0,
+        };
+    }
+    let opened = opening::open(book);
+    let number = opened.number;
+    if number != 0 {
+        let end = lines::put_book_refused(out, 0, number as u64);
+        return Printed {
+            written: true,
+            length: end,
+        };
+    }
+    let t = opened.table;
+    let end = put_run(book, t, first_bytes(events), out);
+    Printed {
+        written: true,
+        length: end,
+    }
+}

@@ -1,0 +1,106 @@
+-- Row 9 of document 01, "Where each refusal is checked": "a count, number, state or term outside its range, an unused part not 0, a message to a dead
+-- machine, a REQ, ACK or RESULT not to the root, a root not alive, a living machine told of as dead, or a replica number in it above 1 + the deaths the
+-- root was told of". One record for each condition, in this order, which says that the condition does not hold. Definitions only.
+--
+-- The crate `validity` has the same check array by array, as the code goes; proofs/Same.antt shows that the two are one.
+use Prim.Native.Nat.{ℕ, _≤_, _<_}
+use mathlib.Core.Path.{_≡_}
+use mathlib.Core.Logic.{_≢_}
+use mathlib.Core.Bool.{true, false}
+use Rattle.pricer.specs.Range.{inRange}
+use Rattle.table.specs.declared.Table.{Table}
+use Rattle.table.specs.Views.{noJob, noMachine, noMessage, bondAt, jobAt, nodeAt, poolAt, toldAt, messageAt}
+use Rattle.table.specs.Parts.{RESULT}
+use Rattle.elements.specs.Elements.{emptyBond, withCopy, withThief, toRoot}
+use Rattle.validity.specs.Validity.{bound}
+
+-- "a count .. outside its range"
+pub record Counts (t : Table) : Type 0 where
+  pub machines-least : 2 ≤ t .machines
+  pub machines-most : t .machines ≤ 16
+  pub entries-most : t .entries ≤ 64
+  pub messages-most : t .«in_flight» ≤ 128
+
+-- "number .. outside its range": machine numbers, job numbers, and replica numbers of "at least 1", where there is a use for them
+pub record Numbers (t : Table) : Type 0 where
+  pub holder : (j : ℕ) → j < 64 → jobAt t j .state ≢ 0 → jobAt t j .holder < t .machines
+  pub thief : (j : ℕ) → j < 64 → jobAt t j .moving ≢ 0 → jobAt t j .thief < t .machines
+  pub replica : (j : ℕ) → j < 64 → jobAt t j .state ≢ 0 → 1 ≤ jobAt t j .replica
+  pub waits : (m : ℕ) → m < 16 → nodeAt t m .waits ≤ t .machines
+  pub reserved : (m : ℕ) → m < 16 → nodeAt t m .«reserved_replica» ≢ 0 → (nodeAt t m .«reserved_job» < t .entries) × (nodeAt t m .«reserved_thief» < t .machines)
+  pub running : (m : ℕ) → m < 16 → nodeAt t m .«running_replica» ≢ 0 → nodeAt t m .«running_job» < t .entries
+  pub ends : (i : ℕ) → i < t .«in_flight» → (messageAt t i .from < t .machines) × (messageAt t i .to < t .machines)
+  pub copies : (i : ℕ) → i < t .«in_flight» → withCopy (messageAt t i .kind) ≡ true → (messageAt t i .job < t .entries) × (1 ≤ messageAt t i .replica)
+  pub thieves : (i : ℕ) → i < t .«in_flight» → withThief (messageAt t i .kind) ≡ true → messageAt t i .thief < t .machines
+
+-- "state .. outside its range"
+pub record States (t : Table) : Type 0 where
+  pub job : (j : ℕ) → j < 64 → jobAt t j .state ≤ 2
+  pub moving : (j : ℕ) → j < 64 → jobAt t j .moving ≤ 1
+  pub alive : (m : ℕ) → m < 16 → nodeAt t m .alive ≤ 1
+  pub told : (m d : ℕ) → m < 16 → d < 16 → toldAt t m d ≤ 1
+  pub kinds : (i : ℕ) → i < t .«in_flight» → (1 ≤ messageAt t i .kind) × (messageAt t i .kind ≤ 9)
+
+-- "term outside its range"
+abbrev pub InRange : Table → Type 0
+InRange t = (j : ℕ) → j < 64 → j < t .entries → inRange (bondAt t j) ≡ true
+
+-- "an unused part not 0"
+pub record Unused (t : Table) : Type 0 where
+  -- entry numbers from n on
+  pub bond : (j : ℕ) → j < 64 → t .entries ≤ j → emptyBond (bondAt t j) ≡ true
+  pub entry : (j : ℕ) → j < 64 → t .entries ≤ j → jobAt t j .state ≡ 0
+  pub pool-entry : (m j : ℕ) → m < 16 → j < 64 → poolAt t m j ≢ 0 → j < t .entries
+  -- "a job not admitted has replica 0 and place 0, a job not priced has price bits 0"; a job on p has no second machine
+  pub unadmitted : (j : ℕ) → j < 64 → jobAt t j .state ≡ 0 → jobAt t j ≡ noJob
+  pub unpriced : (j : ℕ) → j < 64 → jobAt t j .state ≢ 2 → jobAt t j .price ≡ 0
+  pub still : (j : ℕ) → j < 64 → jobAt t j .moving ≡ 0 → jobAt t j .thief ≡ 0
+  -- machine numbers from the count on
+  pub machine : (m : ℕ) → m < 16 → t .machines ≤ m → nodeAt t m .alive ≡ 0
+  pub told : (m d : ℕ) → m < 16 → d < 16 → toldAt t m d ≢ 0 → (m < t .machines) × (d < t .machines)
+  -- "a dead machine has an empty pool and no reserved copy, running copy or wait"; where there is no copy its job and thief are 0
+  pub dead : (m : ℕ) → m < 16 → nodeAt t m .alive ≡ 0 → nodeAt t m ≡ noMachine
+  pub pool-dead : (m j : ℕ) → m < 16 → j < 64 → poolAt t m j ≢ 0 → nodeAt t m .alive ≡ 1
+  pub unreserved : (m : ℕ) → m < 16 → nodeAt t m .«reserved_replica» ≡ 0 → (nodeAt t m .«reserved_job» ≡ 0) × (nodeAt t m .«reserved_thief» ≡ 0)
+  pub idle : (m : ℕ) → m < 16 → nodeAt t m .«running_replica» ≡ 0 → nodeAt t m .«running_job» ≡ 0
+  -- what a message kind has no use for, and "unused slots are all 0"
+  pub copies : (i : ℕ) → i < t .«in_flight» → withCopy (messageAt t i .kind) ≡ false → (messageAt t i .job ≡ 0) × (messageAt t i .replica ≡ 0)
+  pub thieves : (i : ℕ) → i < t .«in_flight» → withThief (messageAt t i .kind) ≡ false → messageAt t i .thief ≡ 0
+  pub prices : (i : ℕ) → i < t .«in_flight» → messageAt t i .kind ≢ RESULT → messageAt t i .price ≡ 0
+  pub slots : (i : ℕ) → i < 128 → t .«in_flight» ≤ i → messageAt t i ≡ noMessage
+
+-- "a message to a dead machine"
+abbrev pub Receivers : Table → Type 0
+Receivers t = (i : ℕ) → i < t .«in_flight» → nodeAt t (messageAt t i .to) .alive ≡ 1
+
+-- "a REQ, ACK or RESULT not to the root"
+abbrev pub ToRoot : Table → Type 0
+ToRoot t = (i : ℕ) → i < t .«in_flight» → toRoot (messageAt t i .kind) ≡ true → messageAt t i .to ≡ 0
+
+-- "a root not alive"
+abbrev pub Root : Table → Type 0
+Root t = nodeAt t 0 .alive ≡ 1
+
+-- "a living machine told of as dead"
+abbrev pub Told : Table → Type 0
+Told t = (m d : ℕ) → m < 16 → d < 16 → toldAt t m d ≢ 0 → nodeAt t d .alive ≢ 1
+
+-- "or a replica number in it above 1 + the deaths the root was told of"
+pub record Replicas (t : Table) : Type 0 where
+  pub job : (j : ℕ) → j < 64 → jobAt t j .replica ≤ bound t
+  pub pool : (m j : ℕ) → m < 16 → j < 64 → poolAt t m j ≤ bound t
+  pub reserved : (m : ℕ) → m < 16 → nodeAt t m .«reserved_replica» ≤ bound t
+  pub running : (m : ℕ) → m < 16 → nodeAt t m .«running_replica» ≤ bound t
+  pub messages : (i : ℕ) → i < t .«in_flight» → messageAt t i .replica ≤ bound t
+
+pub record RowNine (t : Table) : Type 0 where
+  pub counts : Counts t
+  pub numbers : Numbers t
+  pub states : States t
+  pub terms : InRange t
+  pub unused : Unused t
+  pub receivers : Receivers t
+  pub to-root : ToRoot t
+  pub root : Root t
+  pub told : Told t
+  pub replicas : Replicas t

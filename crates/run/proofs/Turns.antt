@@ -1,0 +1,123 @@
+-- One event more in a run: its line, and how long the lines are at most. Assumes nothing.
+use Prim.Native.Nat.{ℕ, zero, suc, _+_, _*_, _≤_, _<_}
+use mathlib.Core.Path.{_≡_, refl, sym, ap, _∙_}
+use mathlib.Core.Bool.{cond}
+use mathlib.Core.List.{List, [], _∷_, _++_, append-assoc, append-nil}
+use native.Mathlib.Nat.{add-zero, add-suc, suc-add}
+use native.Mathlib.Numerals.{add-one}
+use native.Mathlib.Omega.{arith}
+use borrow.Author.Tests.{eq-eqb, ne-eqb}
+use lib.Dec.{eqb}
+use lib.ListN.{length, length-append}
+use Rattle.lists.specs.Scan.{listOf}
+use Rattle.lists.proofs.Cases.{byBool}
+use Rattle.lists.proofs.Scans.{length-list}
+use Rattle.lines.specs.Lines.{eventRefused}
+use Rattle.lines.proofs.Longest.{event-most}
+use Rattle.table.specs.declared.Table.{Table}
+use Rattle.table.specs.declared.Answer.{Answer}
+use Rattle.dispatcher.specs.Step.{stepOf, runOf}
+use Rattle.text.specs.Text.{over, Written}
+use Rattle.text.proofs.Over.{over-none, then}
+use Rattle.run.specs.declared.Ran.{Ran}
+use Rattle.run.specs.Run.{eventAt, eventCount, eventsIn, refusal, refusalsOf, Listed}
+use Rattle.run.proofs.Numbers.{number-most}
+
+-- ---- the line of one event
+
+pub refusal-none : (place n : ℕ) → n ≡ 0 → [] ≡ refusal place n
+unfolding refusal
+refusal-none place n e = rw (eq-eqb n 0 e)
+
+pub refusal-some : (place n : ℕ) → (n ≡ 0 → ⊥) → eventRefused place n ≡ refusal place n
+unfolding refusal
+refusal-some place n e = rw (ne-eqb n 0 e)
+
+pub refusal-most : (place n : ℕ) → n ≤ 22 → length (refusal place n) ≤ 23
+unfolding refusal
+refusal-most place n h = byBool (eqb n 0) (λ e. rw (e, refusal) (omega arith)) (λ e. rw (e, refusal) (event-most place n (omega arith)))
+
+-- what one event leaves, accepted or refused
+module _ (d : List ℕ) (at place : ℕ) (t : Table) (e : List ℕ) (a : Answer) (q : a ≡ stepOf t e) where
+  pub listed-none : a .number ≡ 0 → Listed d at (refusal place (stepOf t e .number)) (stepOf t e .table) d (record { table = a .table; length = at })
+  listed-none h = rw (← q, ← refusal-none place (a .number) h) (record { table = refl; lines = record { text = sym (over-none d at); end = omega arith } })
+
+  pub listed-some : (f : List ℕ) (r : ℕ) → (a .number ≡ 0 → ⊥) → Written d at (eventRefused place (a .number)) f r
+      → Listed d at (refusal place (stepOf t e .number)) (stepOf t e .table) f (record { table = a .table; length = r })
+  listed-some f r h w = rw (← q, ← refusal-some place (a .number) h) (record { table = refl; lines = w })
+
+  pub two-digit-number : a .number < 100
+  two-digit-number = rw q (omega (arith, number-most t e))
+
+-- ---- a list with one event more at its end
+
+pub run-more : (t : Table) (es : List (List ℕ)) (e : List ℕ) → runOf t (es ++ (e ∷ [])) ≡ stepOf (runOf t es) e .table
+unfolding runOf
+run-more t [] e = refl
+run-more t (d ∷ es) e = run-more (stepOf t d .table) es e
+
+pub refusals-more : (place : ℕ) (t : Table) (es : List (List ℕ)) (e : List ℕ)
+    → refusalsOf place t (es ++ (e ∷ [])) ≡ refusalsOf place t es ++ refusal (place + length es) (stepOf (runOf t es) e .number)
+unfolding refusalsOf runOf
+refusals-more place t [] e = append-nil (refusal place (stepOf t e .number)) ∙ ap (λ (k : ℕ). refusal k (stepOf t e .number)) (sym (add-zero place))
+refusals-more place t (d ∷ es) e =
+    let r = refusal place (stepOf t d .number) in
+    let u = stepOf t d .table in
+    let n : place + 1 + length es ≡ place + suc (length es) = omega arith in
+    ap (λ (x : List ℕ). r ++ x) (refusals-more (place + 1) u es e)
+    ∙ sym (append-assoc r (refusalsOf (place + 1) u es) (refusal (place + 1 + length es) (stepOf (runOf u es) e .number)))
+    ∙ ap (λ (k : ℕ). r ++ refusalsOf (place + 1) u es ++ refusal k (stepOf (runOf u es) e .number)) n
+
+pub refusals-most : (place : ℕ) (t : Table) (es : List (List ℕ)) → length (refusalsOf place t es) ≤ 23 * length es
+unfolding refusalsOf
+refusals-most place t [] = omega arith
+refusals-most place t (e ∷ es) =
+    let r = refusal place (stepOf t e .number) in
+    omega (arith, length-append r (refusalsOf (place + 1) (stepOf t e .table) es), refusal-most place (stepOf t e .number) (number-most t e), refusals-most (place + 1) (stepOf t e .table) es)
+
+-- ---- the events of s, of which the first k have been run
+
+list-next : {A : Type 0} (f : ℕ → A) (k : ℕ) → listOf f (k + 1) ≡ listOf f k ++ (f k ∷ [])
+unfolding listOf
+list-next f k = rw (add-one k)
+
+-- the first k events of s have been run from t, and their lines stand at the front of the buffer d, which is now e
+pub record Turn (t : Table) (s d : List ℕ) (k at : ℕ) (u : Table) (e : List ℕ) : Type 0 where
+  pub table : u ≡ runOf t (listOf (eventAt s) k)
+  pub lines : Written d 0 (refusalsOf 1 t (listOf (eventAt s) k)) e at
+  pub most : at ≤ 23 * k
+
+module _ (t : Table) (s d : List ℕ) where
+  pub turn-none : Turn t s d 0 0 t d
+  unfolding listOf runOf refusalsOf
+  turn-none = record { table = refl; lines = record { text = sym (over-none d 0); end = refl }; most = omega arith }
+
+  pub turn-more : (k at : ℕ) (u : Table) (e f bytes : List ℕ) (r : Ran) → Turn t s d k at u e → bytes ≡ eventAt s k
+      → Listed e at (refusal (k + 1) (stepOf u bytes .number)) (stepOf u bytes .table) f r
+      → 23 * (k + 1) ≤ length d → Turn t s d (k + 1) (r .length) (r .table) f
+  turn-more k at u e f bytes r p i j h =
+      let es = listOf (eventAt s) k in
+      let b = eventAt s k in
+      let q : Listed e at (refusal (k + 1) (stepOf u b .number)) (stepOf u b .table) f r = rw i at j in
+      let l : length es ≡ k = length-list (eventAt s) 0 [] k in
+      let place : 1 + length es ≡ k + 1 = omega arith in
+      let w : refusalsOf 1 t es ++ refusal (k + 1) (stepOf u b .number) ≡ refusalsOf 1 t (listOf (eventAt s) (k + 1)) =
+      ap (λ (v : Table). refusalsOf 1 t es ++ refusal (k + 1) (stepOf v b .number)) (p .table)
+      ∙ ap (λ (n : ℕ). refusalsOf 1 t es ++ refusal n (stepOf (runOf t es) b .number)) (sym place)
+      ∙ sym (refusals-more 1 t es b)
+      ∙ ap (refusalsOf 1 t) (sym (list-next (eventAt s) k)) in
+      let m : length (refusalsOf 1 t (listOf (eventAt s) (k + 1))) ≤ 23 * (k + 1) =
+      omega (arith, refusals-most 1 t (listOf (eventAt s) (k + 1)), length-list (eventAt s) 0 [] (k + 1)) in
+      let g : Written d 0 (refusalsOf 1 t es ++ refusal (k + 1) (stepOf u b .number)) f (r .length) = then (p .lines) (q .lines) (rw w (omega arith)) in
+      let x : Written d 0 (refusalsOf 1 t (listOf (eventAt s) (k + 1))) f (r .length) = rw w at g in
+      record {
+        table = q .table ∙ ap (λ (v : Table). stepOf v b .table) (p .table) ∙ sym (run-more t es b) ∙ ap (runOf t) (sym (list-next (eventAt s) k));
+        lines = x;
+        most = omega (arith, x .end);
+      }
+
+  pub turn-end : (k at : ℕ) (u : Table) (e : List ℕ) → k ≡ eventCount s → Turn t s d k at u e
+      → Listed d 0 (refusalsOf 1 t (eventsIn s)) (runOf t (eventsIn s)) e (record { table = u; length = at })
+  unfolding eventsIn
+  turn-end k at u e h p =
+      record { table = rw h at (p .table); lines = rw h at (p .lines) }

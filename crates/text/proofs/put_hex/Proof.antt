@@ -1,0 +1,18 @@
+-- `text::put_hex` meets its contract. Assumes nothing.
+use Rattle.text.specs.Text.{hex16}
+use borrow.Author.Needs.{needs}
+use Rattle.text.proofs.put_hex.Statement.{statement}
+use Rattle.text.proofs.put_hex.Tie as tie
+
+put-digits-requires : tie.Need-put-digits-requires
+put-digits-requires c κs = search needs
+
+same-length : tie.Need-same-length
+same-length c = search needs
+
+returns : tie.Need-returns
+unfolding hex16
+returns c = c .before .before .put-digits .ensures
+
+pub put-hex-spec : {M : Type 1} → statement M
+put-hex-spec = tie.close (tie.spec put-digits-requires same-length returns)
