@@ -9,16 +9,16 @@ use native.Mathlib.Omega.{arith}
 use borrow.Author.Tests.{ltb-true, ltb-false}
 use lib.Dec.{ltb}
 use lib.ListN.{length, replicate}
-use Rattle.lists.proofs.Cases.{byBool, byEq}
+use Rattle.lists.proofs.Cases.{byBool, byEq, and-both}
 use Rattle.table.specs.declared.Job.{Job}
 use Rattle.table.specs.declared.Table.{Table}
 use Rattle.table.specs.declared.Answer.{Answer}
 use Rattle.table.specs.Views.{jobAt}
 use Rattle.invariant.proofs.State.{Whole}
-use Rattle.dispatcher.specs.Step.{stepOf, runOf}
+use Rattle.dispatcher.specs.Step.{codeOf, stepOf, runOf}
 use Rattle.drain.proofs.Reach.{Accepted}
 use Rattle.drain.proofs.Drain.{drain}
-use Rattle.claims.specs.History.{answersOf, countOf, admits, resultsOf, stateAfter, allFurther}
+use Rattle.claims.specs.History.{answersOf, countOf, admits, resultsOf, stateAfter, isFurther, allFurther}
 use Rattle.claims.specs.Claims.{Further}
 use Rattle.claims.proofs.Change.{job-past}
 use Rattle.claims.proofs.History.{settled, open-run}
@@ -32,7 +32,7 @@ all-zero t (e ∷ es) a = rw (a .1, all-zero (stepOf t e .table) es (a .2)) refl
 all-further : (t : Table) (es : List (List ℕ)) → Accepted t es → allFurther es ≡ true
 unfolding allFurther
 all-further t [] a = refl
-all-further t (e ∷ es) a = rw (a .0, all-further (stepOf t e .table) es (a .2)) refl
+all-further t (e ∷ es) a = and-both (isFurther (codeOf e)) (allFurther es) (a .0) (all-further (stepOf t e .table) es (a .2))
 
 -- ---- an admitted job stays admitted
 

@@ -106,10 +106,11 @@ module _ (s : Table) (x : Message) (h : Hand s x) (cap : x .replica ≤ jobAt s 
       rw (a, onAck) (same-with s (h .sized) (x .job) (placed v (x .from)) (h .message .job) (same-placed v (x .from) (λ e. omega arith)) j))
       (λ a. rw (a, onAck) (same-job (jobAt s j) (jobAt s j) refl))
 
-  -- the message is no RESULT
+  -- job j in u, the table after x was handled
   abbrev After : Table → Type 0
   After u = Change false (eqb (x .kind) RESULT && eqb (x .job) j) false (x .price) (jobAt s j) (jobAt u j)
 
+  -- the message is no RESULT
   plain : (u : Table) (k : ℕ) → x .kind ≡ k → eqb k RESULT ≡ false → Same (jobAt s j) (jobAt u j) → After u
   plain u k e n c =
       let z : eqb (x .kind) RESULT ≡ false = ap (λ (i : ℕ). eqb i RESULT) e ∙ n in
