@@ -1,6 +1,6 @@
 -- Document 01, "The table", "Handling, by kind": what the receiver of a message does with it, once it is taken off. m .to is the machine that handles it.
 -- Definitions only, all shut.
-use mathlib.Core.Bool.{not, cond, _&&_, _||_}
+use mathlib.Core.Bool.{Bool, not, cond, _&&_, _||_}
 use Prim.Native.Nat.{ℕ}
 use lib.Dec.{eqb, leb}
 use Rattle.table.specs.declared.Message.{Message}
@@ -37,24 +37,28 @@ onReq t m =
     (cond (not (eqb (toldAt t 0 (m .thief)) 0) || not (eqb (jobAt t (m .job) .moving) 0)) (reply t m DENIED)
     (reply (withJob t (m .job) (moved (jobAt t (m .job)) (m .from) (m .thief))) m AUTH))
 
--- "AUTH sends t SCHEDULE (job, replica) and the reserved copy is gone"; "Unless all three match the reserved copy they do nothing."
+-- "Unless all three match the reserved copy they do nothing.": job, replica and thief of an AUTH, DENIED or OBSOLETE
+abbrev pub matches : Table → Message → Bool
+matches t m = reserves (nodeAt t (m .to)) (m .job) (m .replica) (m .thief)
+
+-- "AUTH sends t SCHEDULE (job, replica) and the reserved copy is gone"
 unfoldable pub onAuth : Table → Message → Table
 onAuth t m =
-    cond (reserves (nodeAt t (m .to)) (m .job) (m .replica) (m .thief))
+    cond (matches t m)
     (send (withNode t (m .to) (release (nodeAt t (m .to)))) (message SCHEDULE (m .to) (m .thief) (m .job) (m .replica) 0))
     t
 
 -- "DENIED returns the copy to the pool and sends t NOWORK"
 unfoldable pub onDenied : Table → Message → Table
 onDenied t m =
-    cond (reserves (nodeAt t (m .to)) (m .job) (m .replica) (m .thief))
+    cond (matches t m)
     (noWork (returned t (m .to)) (m .to) (m .thief))
     t
 
 -- "OBSOLETE discards it and sends t NOWORK"
 unfoldable pub onObsolete : Table → Message → Table
 onObsolete t m =
-    cond (reserves (nodeAt t (m .to)) (m .job) (m .replica) (m .thief))
+    cond (matches t m)
     (noWork (withNode t (m .to) (release (nodeAt t (m .to)))) (m .to) (m .thief))
     t
 
