@@ -1,6 +1,5 @@
 -- Document 01, "The program's page": its lines. Definitions only.
 use Prim.Native.Nat.{ℕ}
-use Prim.Native.String.{String}
 use mathlib.Core.Bool.{cond}
 use mathlib.Core.List.{List, _++_}
 use lib.Dec.{eqb}

@@ -1,5 +1,4 @@
 // The lines of the page, each written into a lent buffer from a position on. The caller makes sure that there is room for the longest line of the kind.
-ghost use mathlib.Core.Path.{_≡_};
 ghost use Prim.Native.Nat.{_+_, _≤_, _<_};
 ghost use lib.ListN.{length};
 ghost use Rattle.text.specs.Text.{Written};

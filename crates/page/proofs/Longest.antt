@@ -1,8 +1,8 @@
 -- How long the lines of a page are at most, and the page itself: length (pageOf book events) ≤ 463,072. Assumes nothing.
-use Prim.Native.Nat.{ℕ, _+_, _*_, _/_, _≤_, _<_}
-use mathlib.Core.Path.{_≡_, refl, sym, ap, _∙_}
-use mathlib.Core.Bool.{true, cond}
-use mathlib.Core.List.{List, [], _++_}
+use Prim.Native.Nat.{ℕ, _+_, _*_, _≤_, _<_}
+use mathlib.Core.Path.{_≡_}
+use mathlib.Core.Bool.{true}
+use mathlib.Core.List.{List, []}
 use native.Mathlib.Omega.{arith}
 use borrow.Author.Tests.{eqb-true}
 use lib.Dec.{eqb, ltb}
@@ -11,7 +11,7 @@ use Rattle.lists.proofs.Cases.{byBool}
 use Rattle.lists.proofs.Scans.{length-list}
 use Rattle.text.specs.Text.{joined}
 use Rattle.text.proofs.Over.{joined-most}
-use Rattle.lines.specs.Lines.{bookRefused, entryLine}
+use Rattle.lines.specs.Lines.{entryLine}
 use Rattle.lines.proofs.Longest.{book-most, entry-most}
 use Rattle.book.specs.Book.{identifierAt}
 use Rattle.book.specs.Parts.{entryCount, identifierOf}

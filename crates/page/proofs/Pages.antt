@@ -1,16 +1,16 @@
 -- What the function page leaves, by the length of its buffer and the number of the book. Assumes nothing.
-use Prim.Native.Nat.{ℕ, _+_, _-_, _≤_, _<_}
-use mathlib.Core.Path.{_≡_, refl, sym, ap, _∙_}
+use Prim.Native.Nat.{ℕ, _-_, _≤_, _<_}
+use mathlib.Core.Path.{_≡_, sym, ap, _∙_}
 use mathlib.Core.Logic.{_≢_}
 use mathlib.Core.Bool.{true, false}
 use mathlib.Core.List.{List}
 use native.Mathlib.Omega.{arith}
 use borrow.Author.Tests.{ltb-false, lt-ltb, le-ltb, eq-eqb, ne-eqb}
 use lib.Dec.{ltb}
-use lib.ListN.{length, take, drop}
+use lib.ListN.{length, take}
 use lib.Seq.{take-all}
 use Rattle.lists.proofs.Cases.{byBool}
-use Rattle.text.specs.Text.{over, Written}
+use Rattle.text.specs.Text.{Written}
 use Rattle.text.proofs.Over.{then}
 use Rattle.lines.specs.Lines.{bookRefused, entryLine}
 use Rattle.book.specs.Parts.{identifierOf}
@@ -21,7 +21,6 @@ use Rattle.opening.specs.Opening.{openOf}
 use Rattle.dispatcher.specs.Step.{runOf}
 use Rattle.run.specs.declared.Ran.{Ran}
 use Rattle.run.specs.Run.{eventsIn, refusalsOf, Listed}
-use Rattle.page.specs.declared.Printed.{Printed}
 use Rattle.page.specs.Page.{eventsOf, entriesText, runText, pageOf, longest, bufferOf, printedOf}
 use Rattle.page.proofs.Longest.{lineOf, page-most}
 

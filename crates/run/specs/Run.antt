@@ -9,7 +9,7 @@ use Rattle.lists.specs.Scan.{listOf}
 use Rattle.text.specs.Text.{Written}
 use Rattle.lines.specs.Lines.{eventRefused}
 use Rattle.table.specs.declared.Table.{Table}
-use Rattle.dispatcher.specs.Step.{stepOf, runOf}
+use Rattle.dispatcher.specs.Step.{stepOf}
 use Rattle.run.specs.declared.Ran.{Ran}
 
 -- "Events are three bytes": those of event k, counted from 0; the last event has fewer where the bytes end before it does

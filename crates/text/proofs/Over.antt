@@ -1,12 +1,12 @@
 -- Laws of a text written over a buffer: its length, one text after another, one more character. Assumes nothing.
 use Prim.Native.Nat.{ℕ, zero, suc, _+_, _*_, _≤_, _<_}
-use mathlib.Core.Path.{_≡_, refl, sym, ap, _∙_}
-use mathlib.Core.List.{List, [], _∷_, _++_, append-assoc, append-nil}
+use mathlib.Core.Path.{_≡_, sym, ap, _∙_}
+use mathlib.Core.List.{List, [], _∷_, _++_, append-assoc}
 use native.Mathlib.Nat.{suc-mul}
 use native.Mathlib.Omega.{arith}
 use native.Mathlib.Numerals.{add-one}
-use lib.ListN.{length, take, drop, set, getD, length-append, length-take, length-drop}
-use lib.Seq.{paste, paste-zero, length-paste, length-paste-head, take-length, length-take-le, take-at, drop-at, drop-drop, take-set-le, set-split, append-snoc, paste-suc}
+use lib.ListN.{length, take, drop, set, getD, length-append}
+use lib.Seq.{paste, paste-zero, length-paste, take-length, length-take-le, take-at, drop-at, drop-drop, take-set-le, set-split, append-snoc, paste-suc}
 use Rattle.text.specs.Text.{over, Written, joined}
 
 -- a copy of all of s
@@ -65,9 +65,6 @@ pub paste-more : (d : List ℕ) (at : ℕ) (s : List ℕ) (j o : ℕ) (e : List 
 paste-more d at s j o e f h p q = rw (add-one j, q, p) (paste-suc d at s j 0 (omega arith) h)
 
 -- ---- a function that writes, after another
-
-pub long : {d : List ℕ} {at : ℕ} {w : List ℕ} {e : List ℕ} {r : ℕ} → Written d at w e r → at + length w ≤ length d → length e ≡ length d
-long {d} {at} {w} h f = ap length (h .text) ∙ length-over d at w f
 
 pub then : {d : List ℕ} {at : ℕ} {a : List ℕ} {e : List ℕ} {m : ℕ} {b : List ℕ} {f : List ℕ} {r : ℕ}
     → Written d at a e m → Written e m b f r → at + length (a ++ b) ≤ length d → Written d at (a ++ b) f r

@@ -1,5 +1,4 @@
 -- `lines::put_entry` meets its contract. Assumes nothing.
-use mathlib.Core.Path.{_≡_}
 use native.Mathlib.Omega.{arith}
 use Rattle.lines.proofs.Entry.{entry-none, entry-open, entry-priced}
 use borrow.Author.Needs.{needs}

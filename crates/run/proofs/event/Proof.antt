@@ -1,7 +1,6 @@
 -- `run::event` meets its contract. Assumes nothing.
-use mathlib.Core.Path.{_≡_, sym, _∙_}
+use mathlib.Core.Path.{sym, _∙_}
 use native.Mathlib.Omega.{arith}
-use Rattle.dispatcher.specs.Step.{stepOf}
 use Rattle.dispatcher.proofs.Kept.{step-answer}
 use Rattle.run.proofs.Turns.{listed-none, listed-some, two-digit-number}
 use borrow.Author.Needs.{needs}
