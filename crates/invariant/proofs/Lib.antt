@@ -38,3 +38,4 @@ pub mod TripDie
 pub mod TripNotice
 pub mod TripEvents
 pub mod Keeps
+pub mod Untouched
