@@ -176,7 +176,7 @@ fn bond_in(r: Reading) -> Bond
 }
 
 // The bond of entry i of n.
-pub fn bond_at(s: &[u8], n: usize, i: usize) -> Bond
+fn bond_at(s: &[u8], n: usize, i: usize) -> Bond
     requires { ⌜ length (now s) ≡ 4 + 31 * n ⌝ }
     requires { ⌜ (i < n) × (n < 65) ⌝ }
     ensures { λ r. ⌜ r ≡ bondAt (now (s .entry)) n i ⌝ }

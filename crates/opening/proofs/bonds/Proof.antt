@@ -1,16 +1,12 @@
 -- `opening::bonds` meets its contract. The loop keeps: the bonds of the entries passed so far, and no bond past them.
 -- Assumes nothing.
 use Rattle.lists.proofs.Rules.{tests}
-use Prim.Native.Nat.{_≤_, _-_}
-use mathlib.Core.Path.{_≡_}
-use Prim.Native.Nat.{ℕ, _<_}
+use Prim.Native.Nat.{_≤_, _<_, _-_}
 use Rattle.pricer.specs.declared.Bond.{Bond}
 use lib.ListN.{set}
 use native.Mathlib.Omega.{arith}
 use mathlib.Core.Path.{_≡_, ap, _∙_}
 use Rattle.lists.proofs.Scans.{list-none, list-more, list-end}
-use Rattle.book.specs.Parts.{bondAt}
-use Rattle.book.proofs.Accepted.{counted, bond-below}
 use Rattle.opening.proofs.Counts.{entries-most}
 use Rattle.lists.specs.Scan.{padTo, listOf}
 use Rattle.book.specs.Parts.{entryCount, noBond, bondOf}
@@ -40,8 +36,8 @@ below c = omega (arith, c .before .loop .inv .0)
 loop-holds : tie.Need-loop-holds Inv-loop μ-loop
 loop-holds c = (c .before .entries .ensures, search tests, c .no-bonds .ensures ∙ list-none _ 64 noBond)
 
-bond-at-requires : tie.Need-bond-at-requires Inv-loop μ-loop
-bond-at-requires c κs = let k = counted _ _ (below c) in let e = c .before .loop .inv .0 in (omega (arith, k .whole, e), (search tests, omega (arith, k .most, e)))
+bond-requires : tie.Need-bond-requires Inv-loop μ-loop
+bond-requires c κs = search tests
 
 mul-out : tie.Need-mul-out Inv-loop μ-loop
 mul-out c = search tests
@@ -62,7 +58,7 @@ loop-again c =
       l .loop .inv .0,
       search tests,
       ap (λ (b : Bond). set (l .loop .out) (l .loop .i) b)
-          (c .bond-at .ensures ∙ ap (λ (n : ℕ). bondAt s n (l .loop .i)) (l .loop .inv .0) ∙ bond-below s (l .loop .i) (below (c .before)))
+          (c .bond .ensures)
           ∙ list-more (bondOf s) 64 noBond (l .loop .i) (l .loop .out) (omega (arith, below (c .before), entries-most s)) (l .loop .inv .2),
     )
 
@@ -80,7 +76,7 @@ bonds-spec =
     cast-n
     no-bonds-requires
     loop-holds
-    bond-at-requires
+    bond-requires
     mul-out
     array-set-from-out
     add-i
