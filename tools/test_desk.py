@@ -26,7 +26,11 @@ import picture
 ROOT = pathlib.Path(__file__).resolve().parent.parent
 CRATES = ROOT / "crates"
 SAMPLE = ROOT / "samples" / "close"
-SAMPLE_TITLE = "The sample close: twenty bonds on four machines, one of which dies"  # of docs/sample-close.svg
+FIRST = ROOT / "samples" / "first"
+PICTURES = {  # those of docs/, with their titles
+    SAMPLE: ("sample-close.svg", "The sample close: twenty bonds on four machines, one of which dies"),
+    FIRST: ("first-run.svg", "A first run: three bonds on three machines"),
+}
 
 HEADER = "identifier,kind,periods,coupon,yield\n"
 GOOD = "ZZ0000000016,fixed,2,4,0\n"
@@ -51,6 +55,11 @@ die 0
 LISTING_PAGE = """event 11 refused 20
 ZZ0000000016 priced 405A000000000000 replica 1
 ZZ0000000024 not admitted
+"""
+FIRST_PAGE = """event 24 refused 20
+US0378331005 priced 4059813F447C3D83 replica 2
+ZZ0000000016 priced 405A000000000000 replica 1
+ZZ0000000024 open replica 1
 """
 
 
@@ -345,15 +354,20 @@ class Model(Folder):
         self.assertEqual((len(lines), lines[19999], lines[20000]), (20002, "event 20000 refused 10", "ZZ0000000016 not admitted"))
 
 
-class Sample(unittest.TestCase):
-    def test_files_make_the_data_of_the_program(self):
-        data = CRATES / "sample_close" / "data"
-        self.assertEqual(book.make((SAMPLE / "book.csv").read_text()), (data / "book.bin").read_bytes())
-        self.assertEqual(events.make((SAMPLE / "events.txt").read_text()), (data / "events.bin").read_bytes())
+class Samples(unittest.TestCase):
+    def made(self, folder):
+        return book.make((folder / "book.csv").read_text()), events.make((folder / "events.txt").read_text())
 
-    def test_picture_is_the_one_in_docs(self):
-        made = picture.picture(*model.read_folder(CRATES / "sample_close" / "data"), SAMPLE_TITLE)
-        self.assertEqual((ROOT / "docs" / "sample-close.svg").read_text(encoding="utf-8"), made)
+    def test_sample_close_is_the_data_of_the_program(self):
+        self.assertEqual(self.made(SAMPLE), model.read_folder(CRATES / "sample_close" / "data"))
+
+    def test_page_of_the_first_run(self):
+        """As the README prints it; 104 is document 01's price."""
+        self.assertEqual(model.page(*self.made(FIRST)), FIRST_PAGE)
+
+    def test_pictures_are_those_in_docs(self):
+        for folder, (name, title) in PICTURES.items():
+            self.assertEqual((ROOT / "docs" / name).read_text(encoding="utf-8"), picture.picture(*self.made(folder), title))
 
 
 class Picture(Folder):
