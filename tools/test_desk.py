@@ -327,6 +327,19 @@ class Model(Folder):
         self.assertEqual(table.step(bytes([3, 2, 0])), (0, ""))
         self.assertEqual((table.jobs[0].state, table.jobs[0].price, table.jobs[0].replica), (model.PRICED, 104.0, 2))
 
+    def test_a_full_channel(self):
+        """Every bond goes by way of 1 to 2, which runs it; its ACK and RESULT stay in flight: 128 messages."""
+        moved = ("steal 1 from 0\ndeliver 1 to 0\ndeliver 0 to 0\ndeliver 0 to 0\ndeliver 0 to 1\ndeliver 1 to 0\n"
+                 "steal 2 from 1\ndeliver 2 to 1\ndeliver 1 to 0\ndeliver 0 to 1\ndeliver 1 to 2\n")
+        names = [f"ZZ{job:09}" for job in range(64)]
+        rows = "".join(f"{name}{book.check_digit(name.encode())},fixed,2,4,0\n" for name in names)
+        text = "".join(f"admit {job}\n{moved}start 2 job {job}\ndone 2\n" for job in range(63)) + "admit 63\n" + moved + "start 2 job 63\n"
+        last = "steal 0 from 1\ndone 2\nsteal 1 from 0\ndeliver 0 to 1\ndeliver 1 to 0\ndone 2\n"  # FISH makes 128, NOWORK is taken off
+        page = model.page(book.make("# machines 3\n" + HEADER + rows), events.make(text + last))
+        count = len(text.splitlines())
+        self.assertEqual(page.splitlines()[:3], [f"event {count + 2} refused 16", f"event {count + 3} refused 16",
+                                                 f"{names[0]}{book.check_digit(names[0].encode())} open replica 1"])
+
     def test_a_refused_event_changes_nothing(self):
         for seed in range(20):
             data, found = random_run(seed, 4, 5, 150)
