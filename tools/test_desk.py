@@ -56,6 +56,19 @@ LISTING_PAGE = """event 11 refused 20
 ZZ0000000016 priced 405A000000000000 replica 1
 ZZ0000000024 not admitted
 """
+# Number, event, the events before it; three machines, two entries.
+REFUSALS = [
+    *((10, event) for event in ("raw 0 0 0", "raw 8 0 0", "raw 255 9 9", "raw 1 0 1", "raw 5 0 1", "raw 6 1 9", "raw 1", "raw 1 0", "raw 1 9 1")),
+    *((11, event) for event in ("admit 2", "steal 3 from 0", "steal 0 from 3", "deliver 3 to 0", "deliver 0 to 3", "start 3 job 0", "start 0 job 2",
+                                "done 3", "die 3", "notice 3 of 0", "notice 0 of 3")),
+    (13, "admit 0", "admit 0"),
+    (12, "steal 1 from 1", "die 1"), (14, "steal 1 from 1"), (14, "steal 1 from 2", "steal 1 from 0"), (14, "steal 1 from 2", "die 2", "notice 1 of 2"),
+    (15, "deliver 0 to 1"), (15, "deliver 0 to 1", "steal 1 from 0"), (15, "deliver 1 to 2", "steal 1 from 2", "die 2"),
+    (12, "start 1 job 0", "admit 0", "die 1"), (17, "start 0 job 0", "admit 0", "start 0 job 0"), (18, "start 1 job 0", "admit 0"),
+    (12, "done 1", "die 1"), (19, "done 0", "admit 0"),
+    (20, "die 0"), (12, "die 1", "die 1"),
+    (12, "notice 1 of 1", "die 1"), (21, "notice 0 of 0"), (21, "notice 0 of 1", "die 2"), (22, "notice 0 of 1", "die 1", "notice 0 of 1"),
+]
 FIRST_PAGE = """event 24 refused 20
 US0378331005 priced 4059813F447C3D83 replica 2
 ZZ0000000016 priced 405A000000000000 replica 1
@@ -326,6 +339,24 @@ class Model(Folder):
         table.flight[0].price = 1.0
         self.assertEqual(table.step(bytes([3, 2, 0])), (0, ""))
         self.assertEqual((table.jobs[0].state, table.jobs[0].price, table.jobs[0].replica), (model.PRICED, 104.0, 2))
+
+    def test_an_old_auth(self):
+        """AUTH for a thief that died does nothing to the copy reserved now, which has the larger replica number."""
+        table = self.table("admit 0\nsteal 1 from 0\ndeliver 1 to 0\ndeliver 0 to 0\ndie 1\nnotice 0 of 1\nsteal 2 from 0\ndeliver 2 to 0\n")
+        self.assertEqual([(m.kind, m.replica, m.thief) for m in table.flight], [("AUTH", 1, 1), ("REQ", 2, 2)])
+        self.assertEqual(table.step(bytes([3, 0, 0])), (0, ""))
+        self.assertEqual(table.machines[0].reserved, (0, 2, 2))
+        self.assertEqual([m.kind for m in table.flight], ["REQ"])
+
+    def test_notice_ends_waiting(self):
+        table = self.table("steal 1 from 2\nsteal 0 from 1\ndie 2\nnotice 1 of 2\nnotice 0 of 2\n")
+        self.assertEqual([machine.waits for machine in table.machines], [1, None, None])
+
+    def test_refusals(self):
+        """The rows of the events: the last event of each list gets the number, those before it are accepted."""
+        for number, last, *before in REFUSALS:
+            table = self.table("".join(line + "\n" for line in before))
+            self.assertEqual(table.step(events.make(last))[0], number, (before, last))
 
     def test_a_full_channel(self):
         """Every bond goes by way of 1 to 2, which runs it; its ACK and RESULT stay in flight: 128 messages."""
