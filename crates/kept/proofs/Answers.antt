@@ -54,7 +54,7 @@ open-number : (book : List ℕ) → openOf book .number ≡ bookVerdict book
 unfolding openOf
 open-number book = byBool (eqb (bookVerdict book) 0) (λ h. rw h (sym (eqb-true (bookVerdict book) 0 h))) (λ h. rw h)
 
-open-fresh : (book : List ℕ) → bookVerdict book ≡ 0 → openOf book .table ≡ freshOf book
+pub open-fresh : (book : List ℕ) → bookVerdict book ≡ 0 → openOf book .table ≡ freshOf book
 unfolding openOf
 open-fresh book z = rw (eq-eqb (bookVerdict book) 0 z)
 
