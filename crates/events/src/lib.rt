@@ -2,34 +2,15 @@
 // An event is a chain of its refusals in document 01's order, and a function that makes the new table.
 ghost use mathlib.Core.Path.{_≡_};
 ghost use Prim.Native.Nat.{_<_, _≤_};
-ghost use Rattle.table.specs.Views.{nodeAt, withJob, enter};
-ghost use Rattle.table.specs.Parts.{opened};
+ghost use Rattle.table.specs.Views.{nodeAt};
 ghost use Rattle.events.specs.Needs.{Ready};
 ghost use Rattle.events.specs.Events.{admitOf, stolen, stealOf, deliverOf, started, startOf, finished, doneOf, died, dieOf};
 use table::Answer;
-use table::Job;
 use table::Machine;
 use table::Message;
 use table::Table;
 
 pub mod notice;
-
-// Job j is open, with replica number r, on the root, and enters the root's pool.
-fn open(t: Table, j: usize, r: u8) -> Table
-    requires { ⌜ j < 64 ⌝ }
-    ensures { λ u. ⌜ u ≡ enter (withJob t j (opened r)) 0 j r ⌝ }
-{
-    let mut u = t;
-    u.jobs[j] = Job {
-        state: 1,
-        replica: r,
-        moving: 0,
-        holder: 0,
-        thief: 0,
-        price: 0,
-    };
-    messages::enter(u, 0, j, r)
-}
 
 // Event 1.
 pub fn admit(t: Table, a: u8) -> Answer
@@ -42,7 +23,7 @@ pub fn admit(t: Table, a: u8) -> Answer
     if job.state != 0 {
         return table::refuse(13, t);
     }
-    let opened = open(t, j, 1);
+    let opened = pools::open_on_root(t, j, 1);
     Answer {
         number: 0,
         table: opened,
@@ -89,7 +70,7 @@ pub fn steal(t: Table, a: u8, b: u8) -> Answer
     if n.waits != 0 {
         return table::refuse(14, t);
     }
-    let told = messages::told_at(t, a as usize, b as usize);
+    let told = pools::told_at(t, a as usize, b as usize);
     if told != 0 {
         return table::refuse(14, t);
     }
@@ -219,7 +200,7 @@ fn died(t: Table, a: u8) -> Table
     requires { ⌜ (a < 16) × (t .«in_flight» ≤ 128) ⌝ }
     ensures { λ r. ⌜ r ≡ died t a ⌝ }
 {
-    let mut u = messages::wipe(t, a as usize);
+    let mut u = pools::wipe(t, a as usize);
     u.nodes[a as usize] = Machine {
         alive: 0,
         reserved_job: 0,

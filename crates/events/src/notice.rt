@@ -42,7 +42,7 @@ fn reclaimed(t: Table, a: u8, b: u8) -> Table
     let i = a as usize;
     let n = t.nodes[i];
     if (n.reserved_replica != 0) & (n.reserved_thief == b) {
-        return messages::returned(t, i);
+        return pools::returned(t, i);
     }
     t
 }
@@ -77,7 +77,7 @@ fn reissue(t: Table, b: u8) -> Table
         let v = t.jobs[k];
         j += 1;
         if lost(v, b) {
-            u = crate::open(u, k, v.replica + 1);
+            u = pools::open_on_root(u, k, v.replica + 1);
         }
     }
     u
@@ -110,7 +110,7 @@ pub fn notice(t: Table, a: u8, b: u8) -> Answer
     if d.alive == 1 {
         return table::refuse(21, t);
     }
-    let told = messages::told_at(t, a as usize, b as usize);
+    let told = pools::told_at(t, a as usize, b as usize);
     if told != 0 {
         return table::refuse(22, t);
     }

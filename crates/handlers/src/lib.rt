@@ -69,7 +69,7 @@ fn on_fish(t: Table, m: Message) -> Table
     if n.reserved_replica != 0 {
         return no_work(t, m.to, m.from);
     }
-    let j = messages::lowest(t, b);
+    let j = pools::lowest(t, b);
     if 64 <= j {
         return no_work(t, m.to, m.from);
     }
@@ -106,7 +106,7 @@ fn on_req(t: Table, m: Message) -> Table
     if (job.state == 2) | (job.replica != m.replica) {
         return reply(t, m, table::OBSOLETE);
     }
-    let told = messages::told_at(t, 0, m.thief as usize);
+    let told = pools::told_at(t, 0, m.thief as usize);
     if (told != 0) | (job.moving != 0) {
         return reply(t, m, table::DENIED);
     }
@@ -173,7 +173,7 @@ fn on_denied(t: Table, m: Message) -> Table
     let b = m.to as usize;
     let n = t.nodes[b];
     if reserves(n, m.job, m.replica, m.thief) {
-        let back = messages::returned(t, b);
+        let back = pools::returned(t, b);
         return no_work(back, m.to, m.thief);
     }
     t
@@ -201,7 +201,7 @@ fn on_schedule(t: Table, m: Message) -> Table
     let b = m.to as usize;
     let mut thief = t.nodes[b];
     thief.waits = 0;
-    let mut u = messages::enter(t, b, m.job as usize, m.replica);
+    let mut u = pools::enter(t, b, m.job as usize, m.replica);
     u.nodes[b] = thief;
     messages::send(
         u,

@@ -33,21 +33,21 @@ add-j c = search tests
 lost-requires : tie.Need-lost-requires Inv-loop μ-loop
 lost-requires c κs = search tests
 
-add-open : tie.Need-add-open Inv-loop μ-loop
+add-open-on-root : tie.Need-add-open-on-root Inv-loop μ-loop
 unfolding parts
-add-open c =
+add-open-on-root c =
     let h = c .before .before .before .before .before .before .pre (c .before .before .before .before .before .loop .j) (search tests) in
     omega arith
 
-open-requires : tie.Need-open-requires Inv-loop μ-loop
-open-requires c κs = search tests
+open-on-root-requires : tie.Need-open-on-root-requires Inv-loop μ-loop
+open-on-root-requires c κs = search tests
 
 loop-less : tie.Need-loop-less Inv-loop μ-loop
 loop-less c = search tests
 
 loop-again : tie.Need-loop-again Inv-loop μ-loop
 unfolding parts
-loop-again c = (search tests, c .open .ensures ∙ reissue-lost _ _ _ _ (sym (c .before .before .before .lost .ensures) ∙ c .before .before .if1 .taken) ∙ up-more _ _ _ _ (c .before .before .before .before .before .before .loop .inv .1))
+loop-again c = (search tests, c .open-on-root .ensures ∙ reissue-lost _ _ _ _ (sym (c .before .before .before .lost .ensures) ∙ c .before .before .if1 .taken) ∙ up-more _ _ _ _ (c .before .before .before .before .before .before .loop .inv .1))
 
 loop-less-2 : tie.Need-loop-less-2 Inv-loop μ-loop
 loop-less-2 c = search tests
@@ -71,8 +71,8 @@ reissue-spec =
     element-copy-out-v
     add-j
     lost-requires
-    add-open
-    open-requires
+    add-open-on-root
+    open-on-root-requires
     loop-less
     loop-again
     loop-less-2

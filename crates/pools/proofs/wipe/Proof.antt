@@ -1,4 +1,4 @@
--- `messages::wipe` meets its contract. The loop keeps: the pool is cleared up to job j.
+-- `pools::wipe` meets its contract. The loop keeps: the pool is cleared up to job j.
 -- Assumes nothing.
 use Prim.Native.Nat.{_-_, _≤_}
 use mathlib.Core.Path.{_≡_}
@@ -7,8 +7,8 @@ use Rattle.lists.proofs.Scans.{up-end, up-more, up-none}
 use Rattle.lists.specs.Scan.{upTo}
 use Rattle.table.specs.Messages.{wipe}
 use Rattle.table.specs.Views.{parts, withPool}
-use Rattle.messages.proofs.wipe.Statement.{statement}
-use Rattle.messages.proofs.wipe.Tie as tie
+use Rattle.pools.proofs.wipe.Statement.{statement}
+use Rattle.pools.proofs.wipe.Tie as tie
 
 abbrev Inv-loop : tie.InvT-loop
 Inv-loop m base u₀ j₀ u j = (j ≤ 64) × (u ≡ upTo (λ k v. withPool v m k 0) j u₀)

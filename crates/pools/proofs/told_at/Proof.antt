@@ -1,10 +1,10 @@
--- `messages::told_at` meets its contract. The place in the flat array is that of the view.
+-- `pools::told_at` meets its contract. The place in the flat array is that of the view.
 -- Assumes nothing.
 use borrow.Author.Needs.{needs}
 use Rattle.lists.proofs.Rules.{flags}
 use Rattle.table.specs.Views.{parts}
-use Rattle.messages.proofs.told_at.Statement.{statement}
-use Rattle.messages.proofs.told_at.Tie as tie
+use Rattle.pools.proofs.told_at.Statement.{statement}
+use Rattle.pools.proofs.told_at.Tie as tie
 
 mul-result : tie.Need-mul-result
 mul-result c = search needs

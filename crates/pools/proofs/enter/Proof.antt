@@ -1,9 +1,9 @@
--- `messages::enter` meets its contract. The larger number is stored where the definition has it.
+-- `pools::enter` meets its contract. The larger number is stored where the definition has it.
 -- Assumes nothing.
 use borrow.Author.Needs.{needs}
 use Rattle.table.specs.Views.{enter, parts}
-use Rattle.messages.proofs.enter.Statement.{statement}
-use Rattle.messages.proofs.enter.Tie as tie
+use Rattle.pools.proofs.enter.Statement.{statement}
+use Rattle.pools.proofs.enter.Tie as tie
 
 mul-i : tie.Need-mul-i
 mul-i c = search needs

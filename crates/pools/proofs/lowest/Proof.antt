@@ -1,4 +1,4 @@
--- `messages::lowest` meets its contract. The loop keeps: no job passed so far is in the pool.
+-- `pools::lowest` meets its contract. The loop keeps: no job passed so far is in the pool.
 -- Assumes nothing.
 use Prim.Native.Nat.{_-_, _≤_}
 use borrow.Author.Tests.{eq-eqb, ne-eqb}
@@ -10,8 +10,8 @@ use Rattle.lists.proofs.Scans.{least-end, least-found, least-more, least-none}
 use Rattle.lists.specs.Scan.{least}
 use Rattle.table.specs.Messages.{lowest}
 use Rattle.table.specs.Views.{parts, poolAt}
-use Rattle.messages.proofs.lowest.Statement.{statement}
-use Rattle.messages.proofs.lowest.Tie as tie
+use Rattle.pools.proofs.lowest.Statement.{statement}
+use Rattle.pools.proofs.lowest.Tie as tie
 
 abbrev Inv-loop : tie.InvT-loop
 Inv-loop m t base j₀ j = (j ≤ 64) × (least (λ k. not (eqb (poolAt t m k) 0)) j ≡ j)

@@ -1,11 +1,11 @@
--- `messages::returned` meets its contract. The copy enters the pool before the machine is changed, as in the definition.
+-- `pools::returned` meets its contract. The copy enters the pool before the machine is changed, as in the definition.
 -- Assumes nothing.
 use borrow.Author.Needs.{needs}
 use Rattle.lists.proofs.Rules.{tests}
 use Rattle.table.specs.Parts.{pieces, returned}
 use Rattle.table.specs.Views.{parts}
-use Rattle.messages.proofs.returned.Statement.{statement}
-use Rattle.messages.proofs.returned.Tie as tie
+use Rattle.pools.proofs.returned.Statement.{statement}
+use Rattle.pools.proofs.returned.Tie as tie
 
 mul-n : tie.Need-mul-n
 mul-n c = search needs
