@@ -15,7 +15,7 @@ use Rattle.table.specs.Parts.{lives}
 use Rattle.table.proofs.Views.{Sized}
 use Rattle.validity.specs.Validity.{tableOk}
 use Rattle.events.specs.Events.{admitted, admitOf, stolen, stealOf, delivered, deliverOf, started, startOf, finished, doneOf, died, dieOf}
-use Rattle.events.specs.Notice.{noticed, noticeOf}
+use Rattle.notice.specs.Notice.{noticed, noticeOf}
 use Rattle.dispatcher.specs.Step.{codeOf, firstOf, secondOf, formed, numbered, eventOf, answerOf, stepOf, runOf}
 use Rattle.dispatcher.proofs.Kept.{run-answer}
 

@@ -9,7 +9,7 @@ use Rattle.table.specs.declared.Answer.{Answer}
 use Rattle.table.specs.Views.{refuse}
 use Rattle.validity.specs.Validity.{tableOk}
 use Rattle.events.specs.Events.{admitOf, stealOf, deliverOf, startOf, doneOf, dieOf}
-use Rattle.events.specs.Notice.{noticeOf}
+use Rattle.notice.specs.Notice.{noticeOf}
 
 -- "Events are three bytes: code, a, b."
 abbrev pub codeOf : List ℕ → ℕ

@@ -3,7 +3,7 @@ ghost use mathlib.Core.Path.{_≡_};
 ghost use mathlib.Core.Bool.{true, _&&_, _||_};
 ghost use lib.Dec.{eqb, leb};
 ghost use Rattle.validity.specs.Validity.{tableOk};
-ghost use Rattle.events.specs.Needs.{Ready};
+ghost use Rattle.messages.specs.Needs.{Ready};
 ghost use Rattle.dispatcher.specs.Step.{usesSecond, numbered, eventOf, answerOf, stepOf};
 use table::Answer;
 use table::Table;
@@ -52,7 +52,7 @@ fn event(t: Table, code: u8, a: u8, b: u8) -> Answer
     if code == 6 {
         return events::die(t, a);
     }
-    events::notice::notice(t, a, b)
+    notice::notice(t, a, b)
 }
 
 // One event on a table that passes check 9, which is not tested again: for a run, whose every table passes.

@@ -13,7 +13,7 @@ use Rattle.table.specs.Views.{nodeAt, poolAt, toldAt, messageAt}
 use Rattle.table.specs.Messages.{chan, oldest}
 use Rattle.table.specs.Parts.{accept}
 use Rattle.events.specs.Events.{delivered, deliverOf, started, startOf, finished, doneOf}
-use Rattle.events.specs.Notice.{noticed, noticeOf}
+use Rattle.notice.specs.Notice.{noticed, noticeOf}
 use Rattle.lists.proofs.Scans.{least-none, least-found}
 use Rattle.preservation.proofs.Facts.{MessageFacts}
 use Rattle.preservation.proofs.Ok.{passes}

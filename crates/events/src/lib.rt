@@ -1,16 +1,14 @@
-// The seven events of a table that passed check 9, for machine and entry numbers in range: events 1 to 6 here, event 7 in notice.rt.
+// Events 1 to 6 on a table that passed check 9, for machine and entry numbers in range. Event 7 is the crate `notice`.
 // An event is a chain of its refusals in document 01's order, and a function that makes the new table.
 ghost use mathlib.Core.Path.{_≡_};
 ghost use Prim.Native.Nat.{_<_, _≤_};
 ghost use Rattle.table.specs.Views.{nodeAt};
-ghost use Rattle.events.specs.Needs.{Ready};
+ghost use Rattle.messages.specs.Needs.{Ready};
 ghost use Rattle.events.specs.Events.{admitOf, stolen, stealOf, deliverOf, started, startOf, finished, doneOf, died, dieOf};
 use table::Answer;
 use table::Machine;
 use table::Message;
 use table::Table;
-
-pub mod notice;
 
 // Event 1.
 pub fn admit(t: Table, a: u8) -> Answer

@@ -14,7 +14,7 @@ use Rattle.table.specs.Parts.{pieces, copyIs, reserves, returned, message, resu
 use Rattle.opening.specs.Opening.{blank, nodesOf}
 use Rattle.handlers.specs.Handlers.{noWork, grant, onFish, reply, onReq, onAuth, onDenied, onObsolete, onSchedule, onNoWork, onAck, onResult, handle}
 use Rattle.events.specs.Events.{admitted, admitOf, stolen, stealOf, delivered, deliverOf, started, startOf, finished, doneOf, died, dieOf}
-use Rattle.events.specs.Notice.{informed, unwaited, reclaimed, quieted, reissueOne, reissue, noticed, noticeOf}
+use Rattle.notice.specs.Notice.{informed, unwaited, reclaimed, quieted, reissueOne, reissue, noticed, noticeOf}
 use Rattle.dispatcher.specs.Step.{formed as eventFormed, numbered, eventOf, answerOf}
 use Rattle.examples.specs.Rows.{three, after, deadThief, beforeAck, lateAck, bookWith, given, stated}
 

@@ -4,7 +4,7 @@ ghost use mathlib.Core.Path.{_≡_};
 ghost use Prim.Native.Nat.{_<_};
 ghost use Rattle.table.specs.Views.{nodeAt, withNode};
 ghost use Rattle.table.specs.Parts.{release, reserves};
-ghost use Rattle.handlers.specs.Needs.{Room, Within};
+ghost use Rattle.messages.specs.Needs.{Room, Within};
 ghost use Rattle.handlers.specs.Handlers.{noWork, grant, onFish, reply, onReq, onAuth, onDenied, onObsolete, onSchedule, onNoWork, onAck, onResult, handle};
 use table::Machine;
 use table::Message;

@@ -12,7 +12,7 @@ use Rattle.table.specs.Messages.{send}
 use Rattle.table.specs.Parts.{running}
 use Rattle.table.proofs.Views.{Sized, views, alive-node, node-messages}
 use Rattle.events.specs.Events.{admitted, stolen, started, finished}
-use Rattle.events.specs.Notice.{quieted, reissue, noticed}
+use Rattle.notice.specs.Notice.{quieted, reissue, noticed}
 use Rattle.invariant.proofs.Flight.{view-either, view-send}
 use Rattle.invariant.proofs.Frame.{frame-refl, frame-node, frame-pool, node-enter}
 use Rattle.invariant.proofs.About.{alive-waiting, alive-running}

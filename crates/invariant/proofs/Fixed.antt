@@ -18,7 +18,7 @@ use Rattle.handlers.specs.Handlers.{noWork, grant, onFish, reply, onReq, onAuth
 use Rattle.events.specs.Events.{admitted, stolen, delivered, started, finished, died}
 use Rattle.dispatcher.specs.Step.{stepOf, runOf}
 use Rattle.dispatcher.proofs.ByEvent.{Kept, by-step, by-run}
-use Rattle.events.specs.Notice.{informed, unwaited, reclaimed, quieted, lost, reissueOne, reissue, noticed}
+use Rattle.notice.specs.Notice.{informed, unwaited, reclaimed, quieted, lost, reissueOne, reissue, noticed}
 use Rattle.invariant.proofs.Flight.{view-either, view-send}
 
 -- no one-part update writes what f reads

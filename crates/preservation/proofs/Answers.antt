@@ -8,7 +8,7 @@ use Rattle.table.specs.declared.Table.{Table}
 use Rattle.table.specs.Views.{nodeAt, poolAt, toldAt}
 use Rattle.table.proofs.Views.{Sized}
 use Rattle.events.specs.Events.{admitted, stolen, delivered, started, finished, died}
-use Rattle.events.specs.Notice.{noticed}
+use Rattle.notice.specs.Notice.{noticed}
 use Rattle.preservation.proofs.Ok.{Ok, machines-most}
 use Rattle.preservation.proofs.Passed.{facts}
 use Rattle.preservation.proofs.Sizes.{sized-admitted, sized-stolen, sized-delivered, sized-started, sized-finished, sized-died, sized-noticed}

@@ -18,7 +18,7 @@ use Rattle.table.proofs.Messages.{sized-send, sized-pull, sized-sift}
 use Rattle.table.proofs.Wipe.{sized-wipe}
 use Rattle.handlers.specs.Handlers.{noWork, grant, onFish, reply, onReq, onAuth, onDenied, onObsolete, onSchedule, onAck, onNoWork, onResult, handle}
 use Rattle.events.specs.Events.{admitted, stolen, delivered, started, finished, died}
-use Rattle.events.specs.Notice.{informed, unwaited, reclaimed, quieted, lost, reissueOne, reissue, noticed}
+use Rattle.notice.specs.Notice.{informed, unwaited, reclaimed, quieted, lost, reissueOne, reissue, noticed}
 
 pub sized-enter : (t : Table) (m j r : ℕ) → Sized t → Sized (enter t m j r)
 unfolding enter

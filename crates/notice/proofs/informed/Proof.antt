@@ -1,10 +1,10 @@
--- `events::notice::informed` meets its contract. The equation of `drop_from`, then one store.
+-- `notice::informed` meets its contract. The equation of `drop_from`, then one store.
 -- Assumes nothing.
 use borrow.Author.Needs.{needs}
 use Rattle.table.specs.Views.{parts}
-use Rattle.events.specs.Notice.{informed}
-use Rattle.events.proofs.notice.informed.Statement.{statement}
-use Rattle.events.proofs.notice.informed.Tie as tie
+use Rattle.notice.specs.Notice.{informed}
+use Rattle.notice.proofs.informed.Statement.{statement}
+use Rattle.notice.proofs.informed.Tie as tie
 
 drop-from-requires : tie.Need-drop-from-requires
 drop-from-requires c κs = search needs

@@ -1,10 +1,10 @@
--- `events::notice::noticed` meets its contract. No job has changed before the root's loop, so that replica numbers can still rise.
+-- `notice::noticed` meets its contract. No job has changed before the root's loop, so that replica numbers can still rise.
 -- Assumes nothing.
 use Rattle.lists.proofs.Rules.{flags, tests}
-use Rattle.events.proofs.Parts.{job-quieted}
-use Rattle.events.specs.Notice.{noticed}
-use Rattle.events.proofs.notice.noticed.Statement.{statement}
-use Rattle.events.proofs.notice.noticed.Tie as tie
+use Rattle.notice.proofs.Parts.{job-quieted}
+use Rattle.notice.specs.Notice.{noticed}
+use Rattle.notice.proofs.noticed.Statement.{statement}
+use Rattle.notice.proofs.noticed.Tie as tie
 
 quieted-requires : tie.Need-quieted-requires
 quieted-requires c κs = (search tests, c .pre .0 .reserved _ (search tests))

@@ -1,4 +1,4 @@
--- `events::notice::reissue` meets its contract. The loop keeps: the jobs before j have had their turn.
+-- `notice::reissue` meets its contract. The loop keeps: the jobs before j have had their turn.
 -- Assumes nothing.
 use Prim.Native.Nat.{_-_, _≤_}
 use mathlib.Core.Path.{_∙_, _≡_, sym}
@@ -7,10 +7,10 @@ use Rattle.lists.proofs.Rules.{tests}
 use Rattle.lists.proofs.Scans.{up-end, up-more, up-none}
 use Rattle.lists.specs.Scan.{upTo}
 use Rattle.table.specs.Views.{jobAt, parts}
-use Rattle.events.proofs.Parts.{reissue-kept, reissue-lost}
-use Rattle.events.specs.Notice.{reissue, reissueOne}
-use Rattle.events.proofs.notice.reissue.Statement.{statement}
-use Rattle.events.proofs.notice.reissue.Tie as tie
+use Rattle.notice.proofs.Parts.{reissue-kept, reissue-lost}
+use Rattle.notice.specs.Notice.{reissue, reissueOne}
+use Rattle.notice.proofs.reissue.Statement.{statement}
+use Rattle.notice.proofs.reissue.Tie as tie
 
 abbrev Inv-loop : tie.InvT-loop
 Inv-loop b t u₀ j₀ u j = (j ≤ 64) × (u ≡ upTo (λ k v. reissueOne (jobAt t k) b k v) j t)

@@ -1,12 +1,12 @@
--- `events::notice::unwaited` meets its contract. The test is that of the definition.
+-- `notice::unwaited` meets its contract. The test is that of the definition.
 -- Assumes nothing.
 use borrow.Author.Needs.{needs}
 use Rattle.lists.proofs.Rules.{flags}
 use Rattle.table.specs.Parts.{pieces}
 use Rattle.table.specs.Views.{parts}
-use Rattle.events.specs.Notice.{unwaited}
-use Rattle.events.proofs.notice.unwaited.Statement.{statement}
-use Rattle.events.proofs.notice.unwaited.Tie as tie
+use Rattle.notice.specs.Notice.{unwaited}
+use Rattle.notice.proofs.unwaited.Statement.{statement}
+use Rattle.notice.proofs.unwaited.Tie as tie
 
 mul-n : tie.Need-mul-n
 mul-n c = search needs

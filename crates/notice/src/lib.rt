@@ -2,8 +2,8 @@
 ghost use mathlib.Core.Path.{_≡_};
 ghost use Prim.Native.Nat.{ℕ, _<_, _≤_};
 ghost use Rattle.table.specs.Views.{jobAt, nodeAt};
-ghost use Rattle.events.specs.Needs.{Ready};
-ghost use Rattle.events.specs.Notice.{informed, unwaited, reclaimed, quieted, lost, reissue, noticed, noticeOf};
+ghost use Rattle.messages.specs.Needs.{Ready};
+ghost use Rattle.notice.specs.Notice.{informed, unwaited, reclaimed, quieted, lost, reissue, noticed, noticeOf};
 use table::Answer;
 use table::Job;
 use table::Table;

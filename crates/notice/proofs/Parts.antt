@@ -11,7 +11,7 @@ use Rattle.table.specs.Views.{jobAt, nodeAt, withJob, enter}
 use Rattle.table.specs.Messages.{sift}
 use Rattle.table.specs.Parts.{opened, returned}
 use Rattle.table.proofs.Views.{views}
-use Rattle.events.specs.Notice.{informed, unwaited, reclaimed, quieted, lost, reissueOne}
+use Rattle.notice.specs.Notice.{informed, unwaited, reclaimed, quieted, lost, reissueOne}
 
 -- ---- no job has changed before the loop
 

@@ -1,8 +1,19 @@
--- What the code of the events asks of a table. A table that passes check 9 gives all of it.
+-- What the code of the handlers and of the events asks of a message and of a table. A table that passes check 9 gives all of it.
 use Prim.Native.Nat.{ℕ, _<_, _≤_}
+use Rattle.table.specs.declared.Message.{Message}
 use Rattle.table.specs.declared.Table.{Table}
 use Rattle.table.specs.Views.{jobAt, nodeAt, messageAt}
-use Rattle.handlers.specs.Needs.{Within}
+
+-- a slot is free
+pub record Room (t : Table) : Type 0 where
+  pub free : t .«in_flight» < 128
+
+-- a message's numbers are within the arrays
+pub record Within (m : Message) : Type 0 where
+  pub job : m .job < 64
+  pub from : m .from < 16
+  pub to : m .to < 16
+  pub thief : m .thief < 16
 
 -- counts and numbers are within the arrays, and a replica number can still rise
 pub record Ready (t : Table) : Type 0 where

@@ -1,11 +1,11 @@
--- `events::notice::reclaimed` meets its contract. The test is one flag.
+-- `notice::reclaimed` meets its contract. The test is one flag.
 -- Assumes nothing.
 use borrow.Author.Needs.{needs}
 use Rattle.lists.proofs.Rules.{tests}
 use Rattle.table.specs.Views.{parts}
-use Rattle.events.specs.Notice.{reclaimed}
-use Rattle.events.proofs.notice.reclaimed.Statement.{statement}
-use Rattle.events.proofs.notice.reclaimed.Tie as tie
+use Rattle.notice.specs.Notice.{reclaimed}
+use Rattle.notice.proofs.reclaimed.Statement.{statement}
+use Rattle.notice.proofs.reclaimed.Tie as tie
 
 mul-n : tie.Need-mul-n
 mul-n c = search needs

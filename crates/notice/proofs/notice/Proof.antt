@@ -1,11 +1,11 @@
--- `events::notice::notice` meets its contract. The three refusals come in the order of the definition.
+-- `notice::notice` meets its contract. The three refusals come in the order of the definition.
 -- Assumes nothing.
 use borrow.Author.Needs.{needs}
 use Rattle.lists.proofs.Rules.{flags}
 use Rattle.table.specs.Views.{parts}
-use Rattle.events.specs.Notice.{noticeOf}
-use Rattle.events.proofs.notice.notice.Statement.{statement}
-use Rattle.events.proofs.notice.notice.Tie as tie
+use Rattle.notice.specs.Notice.{noticeOf}
+use Rattle.notice.proofs.notice.Statement.{statement}
+use Rattle.notice.proofs.notice.Tie as tie
 
 mul-n : tie.Need-mul-n
 mul-n c = search needs

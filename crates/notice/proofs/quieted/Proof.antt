@@ -1,12 +1,12 @@
--- `events::notice::quieted` meets its contract. The equations of the three steps; none of the first two moves the reserved job.
+-- `notice::quieted` meets its contract. The equations of the three steps; none of the first two moves the reserved job.
 -- Assumes nothing.
 use borrow.Author.Needs.{needs}
 use Rattle.lists.proofs.Rules.{tests}
 use Rattle.table.specs.Messages.{sift}
 use Rattle.table.specs.Views.{parts}
-use Rattle.events.specs.Notice.{informed, quieted}
-use Rattle.events.proofs.notice.quieted.Statement.{statement}
-use Rattle.events.proofs.notice.quieted.Tie as tie
+use Rattle.notice.specs.Notice.{informed, quieted}
+use Rattle.notice.proofs.quieted.Statement.{statement}
+use Rattle.notice.proofs.quieted.Tie as tie
 
 informed-requires : tie.Need-informed-requires
 informed-requires c κs = search needs
