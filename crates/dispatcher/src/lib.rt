@@ -44,10 +44,10 @@ fn event(t: Table, code: u8, a: u8, b: u8) -> Answer
         return events::deliver(t, a, b);
     }
     if code == 4 {
-        return events::start(t, a, b);
+        return work::start(t, a, b);
     }
     if code == 5 {
-        return events::done(t, a);
+        return work::done(t, a);
     }
     if code == 6 {
         return events::die(t, a);

@@ -21,7 +21,8 @@ use Rattle.table.proofs.Views.{Sized, views, sized-node, node-same, node-other,
 use Rattle.table.proofs.Messages.{flight-push, sized-pull, message-flight}
 use Rattle.root_handlers.specs.RootHandlers.{onResult}
 use Rattle.handlers.specs.Handlers.{handle}
-use Rattle.events.specs.Events.{delivered, finished}
+use Rattle.events.specs.Events.{delivered}
+use Rattle.work.specs.Work.{finished}
 use Rattle.lists.proofs.Cases.{byBool, byEq}
 use Rattle.preservation.proofs.Sizes.{used-pull}
 use Rattle.invariant.proofs.State.{Whole}

@@ -7,7 +7,8 @@ use Prim.Native.Nat.{ℕ, _<_}
 use native.Mathlib.Omega.{arith}
 use Rattle.table.specs.declared.Table.{Table}
 use Rattle.table.specs.Views.{jobAt, nodeAt, poolAt, toldAt, flight}
-use Rattle.events.specs.Events.{admitted, stolen, delivered, started, finished, died}
+use Rattle.events.specs.Events.{admitted, stolen, delivered, died}
+use Rattle.work.specs.Work.{started, finished}
 use Rattle.notice.specs.Notice.{noticed}
 use Rattle.dispatcher.specs.Step.{stepOf, runOf}
 use Rattle.dispatcher.proofs.ByEvent.{Kept, by-step, by-run}

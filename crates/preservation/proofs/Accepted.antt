@@ -18,7 +18,8 @@ use Rattle.table.proofs.Views.{Sized, views, sized-job, sized-node, sized-pool,
 use Rattle.table.proofs.Messages.{message-flight, sized-pull}
 use Rattle.elements.specs.Elements.{copyOk, messageOk}
 use Rattle.validity.specs.Validity.{bound}
-use Rattle.events.specs.Events.{admitted, stolen, delivered, started, finished}
+use Rattle.events.specs.Events.{admitted, stolen, delivered}
+use Rattle.work.specs.Work.{started, finished}
 use Rattle.preservation.proofs.Ok.{Ok, inFlightOk, machines-some, machines-most, entries-most}
 use Rattle.preservation.proofs.Facts.{copy-is, copy-job, bound-pos, job-opened, running-copy, node-running, node-idle, cell-copy}
 use Rattle.preservation.proofs.Updates.{wide, ok-job, ok-node, ok-pool, ok-send, ok-pull}

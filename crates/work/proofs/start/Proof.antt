@@ -1,11 +1,11 @@
--- `events::start` meets its contract. The three refusals come in the order of the definition.
+-- `work::start` meets its contract. The three refusals come in the order of the definition.
 -- Assumes nothing.
 use borrow.Author.Needs.{needs}
 use Rattle.lists.proofs.Rules.{flags}
 use Rattle.table.specs.Views.{parts}
-use Rattle.events.specs.Events.{startOf}
-use Rattle.events.proofs.start.Statement.{statement}
-use Rattle.events.proofs.start.Tie as tie
+use Rattle.work.specs.Work.{startOf}
+use Rattle.work.proofs.start.Statement.{statement}
+use Rattle.work.proofs.start.Tie as tie
 
 mul-n : tie.Need-mul-n
 mul-n c = search needs

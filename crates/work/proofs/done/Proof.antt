@@ -1,11 +1,11 @@
--- `events::done` meets its contract. The three refusals come in the order of the definition.
+-- `work::done` meets its contract. The three refusals come in the order of the definition.
 -- Assumes nothing.
 use borrow.Author.Needs.{needs}
 use Rattle.lists.proofs.Rules.{flags, tests}
 use Rattle.table.specs.Views.{parts}
-use Rattle.events.specs.Events.{doneOf}
-use Rattle.events.proofs.done.Statement.{statement}
-use Rattle.events.proofs.done.Tie as tie
+use Rattle.work.specs.Work.{doneOf}
+use Rattle.work.proofs.done.Statement.{statement}
+use Rattle.work.proofs.done.Tie as tie
 
 mul-n : tie.Need-mul-n
 mul-n c = search needs

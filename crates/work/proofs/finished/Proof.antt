@@ -1,12 +1,12 @@
--- `events::finished` meets its contract. The price is the pricer's, by its equation alone.
+-- `work::finished` meets its contract. The price is the pricer's, by its equation alone.
 -- Assumes nothing.
 use borrow.Author.Needs.{needs}
 use Rattle.lists.proofs.Rules.{tests}
 use Rattle.table.specs.Parts.{pieces, result}
 use Rattle.table.specs.Views.{parts}
-use Rattle.events.specs.Events.{finished}
-use Rattle.events.proofs.finished.Statement.{statement}
-use Rattle.events.proofs.finished.Tie as tie
+use Rattle.work.specs.Work.{finished}
+use Rattle.work.proofs.finished.Statement.{statement}
+use Rattle.work.proofs.finished.Tie as tie
 
 mul-n : tie.Need-mul-n
 mul-n c = search needs

@@ -1,12 +1,12 @@
--- `events::started` meets its contract. Two stores.
+-- `work::started` meets its contract. Two stores.
 -- Assumes nothing.
 use borrow.Author.Needs.{needs}
 use Rattle.lists.proofs.Rules.{flags}
 use Rattle.table.specs.Parts.{pieces}
 use Rattle.table.specs.Views.{parts}
-use Rattle.events.specs.Events.{started}
-use Rattle.events.proofs.started.Statement.{statement}
-use Rattle.events.proofs.started.Tie as tie
+use Rattle.work.specs.Work.{started}
+use Rattle.work.proofs.started.Statement.{statement}
+use Rattle.work.proofs.started.Tie as tie
 
 mul-i : tie.Need-mul-i
 mul-i c = search needs
