@@ -16,7 +16,8 @@ use Rattle.table.specs.Messages.{pull}
 use Rattle.table.specs.Parts.{opened, running, waiting, lives, message, result}
 use Rattle.table.proofs.Views.{Sized, views, sized-job, sized-node, sized-pool, length-flight}
 use Rattle.table.proofs.Messages.{message-flight, sized-pull}
-use Rattle.elements.specs.Elements.{copyOk, messageOk}
+use Rattle.elements.specs.Elements.{copyOk}
+use Rattle.slots.specs.Slots.{messageOk}
 use Rattle.validity.specs.Validity.{bound}
 use Rattle.events.specs.Events.{admitted, stolen, delivered}
 use Rattle.work.specs.Work.{started, finished}

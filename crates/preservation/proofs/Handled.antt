@@ -15,7 +15,8 @@ use Rattle.table.specs.Views.{jobAt, nodeAt, poolAt, toldAt, withJob, withNode,
 use Rattle.table.specs.Messages.{lowest}
 use Rattle.table.specs.Parts.{moved, placed, priced, reserve, release, waiting, copyIs, reserves, returned, message}
 use Rattle.table.proofs.Views.{Sized, views, sized-job, sized-node, sized-pool}
-use Rattle.elements.specs.Elements.{copyOk, messageOk, withCopy}
+use Rattle.elements.specs.Elements.{copyOk}
+use Rattle.slots.specs.Slots.{messageOk, withCopy}
 use Rattle.validity.specs.Validity.{bound}
 use Rattle.victim_handlers.specs.VictimHandlers.{noWork, grant, onFish, onAuth, onDenied, onObsolete}
 use Rattle.thief_handlers.specs.ThiefHandlers.{onSchedule, onNoWork}

@@ -1,8 +1,8 @@
--- `elements::ends_ok` meets its contract. The definition joins what the functions it calls equal, in the same order.
+-- `slots::ends_ok` meets its contract. The definition joins what the functions it calls equal, in the same order.
 -- Assumes nothing.
 use borrow.Author.Needs.{needs}
-use Rattle.elements.proofs.ends_ok.Statement.{statement}
-use Rattle.elements.proofs.ends_ok.Tie as tie
+use Rattle.slots.proofs.ends_ok.Statement.{statement}
+use Rattle.slots.proofs.ends_ok.Tie as tie
 
 to-root-requires : tie.Need-to-root-requires
 to-root-requires c κs = search needs

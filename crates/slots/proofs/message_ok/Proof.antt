@@ -1,8 +1,8 @@
--- `elements::message_ok` meets its contract. The definition joins what the functions it calls equal, in the same order.
+-- `slots::message_ok` meets its contract. The definition joins what the functions it calls equal, in the same order.
 -- Assumes nothing.
 use borrow.Author.Needs.{needs}
-use Rattle.elements.proofs.message_ok.Statement.{statement}
-use Rattle.elements.proofs.message_ok.Tie as tie
+use Rattle.slots.proofs.message_ok.Statement.{statement}
+use Rattle.slots.proofs.message_ok.Tie as tie
 
 kind-ok-requires : tie.Need-kind-ok-requires
 kind-ok-requires c κs = search needs

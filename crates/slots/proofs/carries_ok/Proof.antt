@@ -1,8 +1,8 @@
--- `elements::carries_ok` meets its contract. The definition joins what the functions it calls equal, in the same order.
+-- `slots::carries_ok` meets its contract. The definition joins what the functions it calls equal, in the same order.
 -- Assumes nothing.
 use borrow.Author.Needs.{needs}
-use Rattle.elements.proofs.carries_ok.Statement.{statement}
-use Rattle.elements.proofs.carries_ok.Tie as tie
+use Rattle.slots.proofs.carries_ok.Statement.{statement}
+use Rattle.slots.proofs.carries_ok.Tie as tie
 
 with-copy-requires : tie.Need-with-copy-requires
 with-copy-requires c κs = search needs

@@ -1,10 +1,10 @@
--- `elements::slot_ok` meets its contract. By the one test, of the slot against the number in use.
+-- `slots::slot_ok` meets its contract. By the one test, of the slot against the number in use.
 -- Assumes nothing.
 use Rattle.lists.proofs.Rules.{flags}
 use borrow.Author.Tests.{lt-leb}
 use borrow.Author.Needs.{needs}
-use Rattle.elements.proofs.slot_ok.Statement.{statement}
-use Rattle.elements.proofs.slot_ok.Tie as tie
+use Rattle.slots.proofs.slot_ok.Statement.{statement}
+use Rattle.slots.proofs.slot_ok.Tie as tie
 
 empty-message-requires : tie.Need-empty-message-requires
 empty-message-requires c κs = search needs

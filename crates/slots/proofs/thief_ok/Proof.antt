@@ -1,8 +1,8 @@
--- `elements::thief_ok` meets its contract. The definition joins what the functions it calls equal, in the same order.
+-- `slots::thief_ok` meets its contract. The definition joins what the functions it calls equal, in the same order.
 -- Assumes nothing.
 use borrow.Author.Needs.{needs}
-use Rattle.elements.proofs.thief_ok.Statement.{statement}
-use Rattle.elements.proofs.thief_ok.Tie as tie
+use Rattle.slots.proofs.thief_ok.Statement.{statement}
+use Rattle.slots.proofs.thief_ok.Tie as tie
 
 with-thief-requires : tie.Need-with-thief-requires
 with-thief-requires c κs = search needs
