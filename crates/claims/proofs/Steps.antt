@@ -16,7 +16,8 @@ use Rattle.table.specs.Views.{jobAt, withJob}
 use Rattle.table.specs.Messages.{oldest}
 use Rattle.table.specs.Parts.{opened, accept, RESULT}
 use Rattle.table.proofs.Views.{views, job-same, job-other, job-node}
-use Rattle.events.specs.Events.{admitted, stolen, delivered, died}
+use Rattle.events.specs.Events.{admitted, delivered, died}
+use Rattle.steal.specs.Steal.{stolen}
 use Rattle.work.specs.Work.{started, finished}
 use Rattle.notice.specs.Notice.{lost, quieted, reissue, noticed}
 use Rattle.preservation.proofs.Sizes.{sized-quieted}

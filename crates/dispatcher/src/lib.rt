@@ -38,7 +38,7 @@ fn event(t: Table, code: u8, a: u8, b: u8) -> Answer
         return events::admit(t, a);
     }
     if code == 2 {
-        return events::steal(t, a, b);
+        return steal::steal(t, a, b);
     }
     if code == 3 {
         return events::deliver(t, a, b);

@@ -1,13 +1,13 @@
--- Document 01, "The table", events 1, 2, 3 and 6, each with its own refusals in the order of "Where each refusal is checked". What the dispatcher has
+-- Document 01, "The table", events 1, 3 and 6, each with its own refusals in the order of "Where each refusal is checked". What the dispatcher has
 -- tested before (9, 10, 11) is not tested again. Definitions only, all shut.
 use mathlib.Core.Bool.{not, cond}
-use Prim.Native.Nat.{ℕ, _+_}
+use Prim.Native.Nat.{ℕ}
 use lib.Dec.{eqb, leb}
 use Rattle.table.specs.declared.Table.{Table}
 use Rattle.table.specs.declared.Answer.{Answer}
-use Rattle.table.specs.Views.{noMachine, jobAt, nodeAt, toldAt, messageAt, withJob, withNode, refuse, enter}
-use Rattle.table.specs.Messages.{send, oldest, pull, sift, notTo, wipe}
-use Rattle.table.specs.Parts.{opened, waiting, lives, message, FISH, accept}
+use Rattle.table.specs.Views.{noMachine, jobAt, messageAt, withJob, withNode, refuse, enter}
+use Rattle.table.specs.Messages.{oldest, pull, sift, notTo, wipe}
+use Rattle.table.specs.Parts.{opened, lives, accept}
 use Rattle.handlers.specs.Handlers.{handle}
 
 -- "1. Admit a: job a becomes open, replica 1, on 0, and enters the root's pool."
@@ -19,20 +19,6 @@ unfoldable pub admitOf : Table → ℕ → Answer
 admitOf t a =
     cond (not (eqb (jobAt t a .state) 0)) (refuse 13 t)
     (accept (admitted t a))
-
--- "2. Steal a b: thief a sends FISH to b and waits on b."
-unfoldable pub stolen : Table → ℕ → ℕ → Table
-stolen t a b = send (withNode t a (waiting (nodeAt t a) (b + 1))) (message FISH a b 0 0 0)
-
--- 12 thief dead; 14 thief is victim, or waits already, or was told the victim is dead; 16 128 messages in flight
-unfoldable pub stealOf : Table → ℕ → ℕ → Answer
-stealOf t a b =
-    cond (not (lives t a)) (refuse 12 t)
-    (cond (eqb a b) (refuse 14 t)
-    (cond (not (eqb (nodeAt t a .waits) 0)) (refuse 14 t)
-    (cond (not (eqb (toldAt t a b) 0)) (refuse 14 t)
-    (cond (leb 128 (t .«in_flight»)) (refuse 16 t)
-    (accept (stolen t a b))))))
 
 -- "3. Deliver a b: the oldest message from a to b is taken off and handled by b."
 unfoldable pub delivered : Table → ℕ → Table

@@ -16,7 +16,8 @@ use Rattle.victim_handlers.specs.VictimHandlers.{noWork, grant, onFish, onAuth,
 use Rattle.thief_handlers.specs.ThiefHandlers.{onSchedule, onNoWork}
 use Rattle.root_handlers.specs.RootHandlers.{reply, onReq, onAck, onResult}
 use Rattle.handlers.specs.Handlers.{handle}
-use Rattle.events.specs.Events.{admitted, admitOf, stolen, stealOf, delivered, deliverOf, died, dieOf}
+use Rattle.events.specs.Events.{admitted, admitOf, delivered, deliverOf, died, dieOf}
+use Rattle.steal.specs.Steal.{stolen, stealOf}
 use Rattle.work.specs.Work.{started, startOf, finished, doneOf}
 use Rattle.notice.specs.Notice.{informed, unwaited, reclaimed, quieted, reissueOne, reissue, noticed, noticeOf}
 use Rattle.dispatcher.specs.Step.{formed as eventFormed, numbered, eventOf, answerOf}

@@ -17,7 +17,8 @@ use Rattle.table.specs.Views.{bondAt, jobAt, nodeAt, poolAt, flight, withJob, w
 use Rattle.table.specs.Messages.{notTo, notFrom, send}
 use Rattle.table.specs.Parts.{opened, running, message, result}
 use Rattle.table.proofs.Views.{views}
-use Rattle.events.specs.Events.{admitted, stolen, died}
+use Rattle.events.specs.Events.{admitted, died}
+use Rattle.steal.specs.Steal.{stolen}
 use Rattle.work.specs.Work.{started, finished}
 use Rattle.notice.specs.Notice.{lost, quieted, noticed}
 use Rattle.preservation.proofs.Sizes.{sized-quieted}

@@ -16,7 +16,8 @@ use Rattle.table.specs.Views.{noMessage, bondAt, jobAt, nodeAt, poolAt, flight,
 use Rattle.table.specs.Messages.{send}
 use Rattle.table.specs.Parts.{running, waiting, message, result, FISH, ACK, RESULT}
 use Rattle.table.proofs.Views.{views, pool-node, flight-node, flight-pool}
-use Rattle.events.specs.Events.{admitted, stolen}
+use Rattle.events.specs.Events.{admitted}
+use Rattle.steal.specs.Steal.{stolen}
 use Rattle.work.specs.Work.{started, finished}
 use Rattle.lists.proofs.Cases.{byBool, byEq, and-left, and-right}
 use Rattle.lists.proofs.Count.{ind}

@@ -1,11 +1,11 @@
--- `events::steal` meets its contract. The five refusals come in the order of the definition.
+-- `steal::steal` meets its contract. The five refusals come in the order of the definition.
 -- Assumes nothing.
 use borrow.Author.Needs.{needs}
 use Rattle.lists.proofs.Rules.{flags}
 use Rattle.table.specs.Views.{parts}
-use Rattle.events.specs.Events.{stealOf}
-use Rattle.events.proofs.steal.Statement.{statement}
-use Rattle.events.proofs.steal.Tie as tie
+use Rattle.steal.specs.Steal.{stealOf}
+use Rattle.steal.proofs.steal.Statement.{statement}
+use Rattle.steal.proofs.steal.Tie as tie
 
 mul-n : tie.Need-mul-n
 mul-n c = search needs

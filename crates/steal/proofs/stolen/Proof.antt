@@ -1,12 +1,12 @@
--- `events::stolen` meets its contract. One store, then the equation of `send`.
+-- `steal::stolen` meets its contract. One store, then the equation of `send`.
 -- Assumes nothing.
 use borrow.Author.Needs.{needs}
 use Rattle.lists.proofs.Rules.{flags}
 use Rattle.table.specs.Parts.{message, pieces}
 use Rattle.table.specs.Views.{parts}
-use Rattle.events.specs.Events.{stolen}
-use Rattle.events.proofs.stolen.Statement.{statement}
-use Rattle.events.proofs.stolen.Tie as tie
+use Rattle.steal.specs.Steal.{stolen}
+use Rattle.steal.proofs.stolen.Statement.{statement}
+use Rattle.steal.proofs.stolen.Tie as tie
 
 mul-n : tie.Need-mul-n
 mul-n c = search needs
