@@ -1,0 +1,98 @@
+// The C interface: what a program in C or Rust calls of Rakhvide, under the names that include/rakhvide.h declares.
+// Each function is one of the crates below under a plain name; no function asks anything of its numbers or bytes.
+ghost use mathlib.Core.Path.{_≡_};
+ghost use lib.Ieee.{binary64, toBits};
+ghost use Rattle.isin.specs.Isin.{verdictOf};
+ghost use Rattle.pricer.specs.Price.{zeroPrice, fixedPrice};
+ghost use Rattle.term.specs.Term.{termOf};
+ghost use Rattle.book.specs.Book.{bookVerdict};
+ghost use Rattle.page.specs.Page.{eventsOf, printedOf, bufferOf};
+ghost use Rattle.claims.specs.Claims.{Demand3};
+ghost use Rattle.rakhvide_c.specs.Terms.{termNumber, termBits};
+use pricer::FixedBond;
+use term::Reading;
+
+// 0 for an identifier that passes, 4 for its form, 5 for its check digit.
+#[no_mangle]
+pub extern "C" fn rakhvide_identifier(s: &[u8]) -> u8
+    ensures { λ r. ⌜ r ≡ verdictOf (now (s .entry)) ⌝ }
+{
+    isin::verdict(s)
+}
+
+// The number of a book's refusal, or 0.
+#[no_mangle]
+pub extern "C" fn rakhvide_book(book: &[u8]) -> u8
+    ensures { λ r. ⌜ r ≡ bookVerdict (now (book .entry)) ⌝ }
+{
+    book::verdict(book)
+}
+
+// 0 for a term that was read, 7 for one outside the rules.
+fn number_of(r: Reading) -> u8
+    ensures { λ n. ⌜ n ≡ termNumber r ⌝ }
+{
+    match r {
+        Reading::Faulty => 7,
+        Reading::Valid(_) => 0,
+    }
+}
+
+// The bits of the price of a term that was read; for one outside the rules, those that were there.
+fn bits_of(r: Reading, old: u64) -> u64
+    ensures { λ n. ⌜ n ≡ termBits r old ⌝ }
+{
+    match r {
+        Reading::Faulty => old,
+        Reading::Valid(b) => pricer::price_bits(b),
+    }
+}
+
+// 0 and the bits of the price of a term's bond; or 7, and the bits are left as they were.
+#[no_mangle]
+pub extern "C" fn rakhvide_term(term: &[u8], bits: &mut u64) -> u8
+    ensures { λ r. ⌜ r ≡ termNumber (termOf (now (term .entry))) ⌝ }
+    ensures { λ _. ⌜ now (bits .exit) ≡ termBits (termOf (now (term .entry))) (now (bits .entry)) ⌝ }
+{
+    let r = term::read(term);
+    *bits = bits_of(r, *bits);
+    number_of(r)
+}
+
+// The bits of a zero-coupon bond's price.
+#[no_mangle]
+pub extern "C" fn rakhvide_price_zero(periods: u8, ytm: f64) -> u64
+    ensures { λ r. ⌜ r ≡ toBits binary64 (zeroPrice ytm periods) ⌝ }
+{
+    pricer::bits(pricer::price_zero(periods, ytm))
+}
+
+// The bits of a fixed coupon bond's price.
+#[no_mangle]
+pub extern "C" fn rakhvide_price_fixed(periods: u8, coupon: f64, ytm: f64) -> u64
+    ensures { λ r. ⌜ r ≡ toBits binary64 (fixedPrice (record { periods = periods; coupon = coupon; ytm = ytm })) ⌝ }
+{
+    pricer::bits(pricer::price_fixed(FixedBond {
+        periods,
+        coupon,
+        ytm,
+    }))
+}
+
+// Runs the events on the fresh table of the book, and writes the page to the front of the buffer; of a buffer that is too short, nothing changes.
+#[no_mangle]
+pub extern "C" fn rakhvide_page(
+    book: &[u8],
+    events: &[u8],
+    out: &mut [u8],
+    length: &mut usize,
+) -> bool
+    ensures { λ r. ⌜ r ≡ printedOf (now (book .entry)) (now (events .entry)) (now (out .entry)) .written ⌝ }
+    ensures { λ _. ⌜ now (length .exit) ≡ printedOf (now (book .entry)) (now (events .entry)) (now (out .entry)) .length ⌝ }
+    ensures { λ _. ⌜ now (out .exit) ≡ bufferOf (now (book .entry)) (now (events .entry)) (now (out .entry)) ⌝ }
+    ensures { λ _. ⌜ (bookVerdict (now (book .entry)) ≡ 0 → Demand3 (now (book .entry)) (eventsOf (now (events .entry)))) ⌝ }
+{
+    let printed = promised::run_page(book, events, out);
+    *length = printed.length;
+    printed.written
+}
