@@ -50,6 +50,48 @@ pub enum Fault {
     ReplicaTooLarge,
 }
 
+impl Fault {
+    /// Every condition.
+    pub const ALL: [Fault; 36] = [
+        Fault::MachineCount,
+        Fault::EntryCount,
+        Fault::MessageCount,
+        Fault::TermOutOfRange,
+        Fault::JobMachineNumber,
+        Fault::JobReplicaZero,
+        Fault::ReservedNumber,
+        Fault::RunningNumber,
+        Fault::WaitNumber,
+        Fault::MessageMachineNumber,
+        Fault::MessageJobNumber,
+        Fault::MessageThiefNumber,
+        Fault::MessageReplicaZero,
+        Fault::JobState,
+        Fault::JobMoving,
+        Fault::AliveFlag,
+        Fault::ToldFlag,
+        Fault::MessageKind,
+        Fault::UnusedTerm,
+        Fault::UnusedJob,
+        Fault::UnusedMachine,
+        Fault::UnusedTold,
+        Fault::UnusedPool,
+        Fault::UnusedSlot,
+        Fault::NotAdmittedJob,
+        Fault::OpenJobPrice,
+        Fault::RestingJobThief,
+        Fault::DeadMachine,
+        Fault::NoReserved,
+        Fault::NoRunning,
+        Fault::MessageField,
+        Fault::MessageToDead,
+        Fault::NotToRoot,
+        Fault::RootNotAlive,
+        Fault::LivingToldDead,
+        Fault::ReplicaTooLarge,
+    ];
+}
+
 type Verdict = Result<(), Fault>;
 
 /// What numbers of a table may not exceed.
