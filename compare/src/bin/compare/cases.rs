@@ -204,7 +204,7 @@ fn step(trial: &mut Trial, table: &mut Table, kept: &mut Vec<u8>, event: &[u8]) 
 }
 
 /// A table that some run reaches, by the second implementation alone.
-fn reached(rng: &mut Rng) -> Table {
+pub fn reached(rng: &mut Rng) -> Table {
     let (bytes, aim) = book_of_run(rng);
     let mut table = Table::open(&Book::read(&bytes).expect("a book that passes"));
     let mut driver = Driver::new(rng, aim, &table);

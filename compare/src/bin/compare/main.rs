@@ -2,6 +2,7 @@
 //!
 //! compare SEED COUNT                  COUNT thousand events of runs, and the rest in proportion
 //! compare SEED COUNT SECTION INDEX    one case again
+//! compare seeds FOLDER                inputs for the fuzzer
 //!
 //! Exit status 0: no difference. 1: a difference, which is printed. 2: the input did not reach all that it
 //! should reach, or bad usage.
@@ -14,6 +15,7 @@ mod fields;
 mod inputs;
 mod library;
 mod rng;
+mod seeds;
 
 use cases::{Outcome, Trial};
 use rng::Rng;
@@ -40,6 +42,12 @@ const ENOUGH: u64 = 100;
 
 fn main() -> ExitCode {
     let words: Vec<String> = std::env::args().skip(1).collect();
+    if let [command, folder] = &words[..] {
+        if command == "seeds" {
+            seeds::write(folder.as_ref()).expect("the folder can be written");
+            return ExitCode::SUCCESS;
+        }
+    }
     let number = |at: usize| words.get(at).and_then(|word: &String| word.parse::<u64>().ok());
     let mut trial = Trial { library: library::Library::new(), coverage: Default::default() };
     match (number(0), number(1), words.get(2), number(3), words.len()) {
