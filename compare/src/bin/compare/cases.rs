@@ -149,8 +149,8 @@ pub fn run(trial: &mut Trial, rng: &mut Rng) -> Outcome {
     let mut list = Vec::new();
     for place in 1..=length {
         let event = driver.next(rng, &table);
-        if event.len() == 3 {
-            list.extend(&event);
+        if event.len() >= 3 {
+            list.extend(&event[..3]);
         }
         let number =
             step(trial, &mut table, &mut kept, &event).map_err(|text| format!("event {place} {text}"))?;
