@@ -140,27 +140,35 @@ fn same_page(trial: &mut Trial, rng: &mut Rng, book: &[u8], events: &[u8]) -> Re
 pub fn run(trial: &mut Trial, rng: &mut Rng) -> Outcome {
     let (bytes, aim) = book_of_run(rng);
     let mut table = Table::open(&Book::read(&bytes).expect("a book that passes"));
-    let mut kept = table.to_bytes().to_vec();
-    let mut opened = vec![0; BYTES];
-    same("open", trial.library.open(&bytes, &mut opened), 0)?;
-    same_bytes("open", &opened, &kept)?;
+    let mut kept = vec![0; BYTES];
+    same("open", trial.library.open(&bytes, &mut kept), 0)?;
+    same_bytes("open", &kept, &table.to_bytes())?;
     let mut driver = Driver::new(rng, aim, &table);
-    let length = if aim == Aim::Flood { 1400 } else { 50 + rng.below(700) };
     let mut list = Vec::new();
-    for place in 1..=length {
+    let mut length = 0;
+    while !ends(rng, aim, length, &table) {
         let event = driver.next(rng, &table);
-        if event.len() >= 3 {
-            list.extend(&event[..3]);
-        }
+        length += 1;
+        list.extend(event.get(..3).unwrap_or(&[]));
         let number =
-            step(trial, &mut table, &mut kept, &event).map_err(|text| format!("event {place} {text}"))?;
+            step(trial, &mut table, &mut kept, &event).map_err(|text| format!("event {length} {text}"))?;
         trial.coverage.answers.count(&event, number);
         trial.coverage.table(&table);
     }
     extend_list(rng, &mut list, &table);
     same_page(trial, rng, &bytes, &list)?;
     trial.coverage.runs += 1;
-    Ok(length as u64)
+    Ok(length)
+}
+
+/// Whether a run ends here: soon where the root alone is alive, and not before a full channel where this is
+/// the aim.
+fn ends(rng: &mut Rng, aim: Aim, length: u64, table: &Table) -> bool {
+    let root_alone = (1..table.machines).all(|machine| !table.alive(machine));
+    match aim {
+        Aim::Flood => length >= 1400,
+        _ => length >= 1000 || rng.chance(1, if root_alone { 20 } else { 400 }),
+    }
 }
 
 fn book_of_run(rng: &mut Rng) -> (Vec<u8>, Aim) {

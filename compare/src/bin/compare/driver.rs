@@ -35,7 +35,7 @@ pub enum Aim {
 impl Driver {
     pub fn new(rng: &mut Rng, aim: Aim, table: &Table) -> Driver {
         let mut weights = [0, 9, 18, 60, 18, 15, 0, 12].map(|w: usize| w * rng.pick(&[1, 1, 1, 2, 4]));
-        weights[6] = rng.pick(&[0, 1, 2, 4]);
+        weights[6] = rng.pick(&[0, 0, 1, 2]);
         let mut driver = Driver { weights, noise: 6, planned: 0, plan: VecDeque::new(), blocked: None };
         match aim {
             Aim::Mixed => driver.blocked = rng.chance(1, 3).then(|| pair(rng, table)),
@@ -66,16 +66,17 @@ impl Driver {
             self.plan.push_back(Task::Event([1, job, 0]));
         }
         for machine in 1..table.machines {
-            let through_ack = rng.chance(2, 3);
-            self.plan_handover(0, machine, through_ack);
+            let stages = rng.pick(&[1, 2, 3, 4, 4, 5, 5, 5]);
+            self.plan_handover(0, machine, stages);
             if rng.chance(1, 4) {
-                self.plan_handover(machine, 1 + rng.number(table.machines - 1), true);
+                self.plan_handover(machine, 1 + rng.number(table.machines - 1), 5);
             }
             self.plan.push_back(Task::Event([6, machine, 0]));
             if rng.chance(1, 3) {
                 self.plan.push_back(Task::Drain(machine, 0));
             }
             self.plan.push_back(Task::Event([7, 0, machine]));
+            self.plan.push_back(Task::Drain(0, 0));
         }
     }
 
@@ -85,8 +86,8 @@ impl Driver {
         for job in 0..ENTRIES as u8 {
             self.plan.push_back(Task::Event([1, job, 0]));
         }
-        (0..ENTRIES).for_each(|_| self.plan_handover(0, 2, true));
-        (0..ENTRIES).for_each(|_| self.plan_handover(2, 1, false));
+        (0..ENTRIES).for_each(|_| self.plan_handover(0, 2, 5));
+        (0..ENTRIES).for_each(|_| self.plan_handover(2, 1, 4));
         for job in 0..ENTRIES as u8 {
             self.plan.push_back(Task::Event([4, 1, job]));
             self.plan.push_back(Task::Event([5, 1, 0]));
@@ -94,14 +95,11 @@ impl Driver {
         self.blocked = Some((1, 0));
     }
 
-    /// A thief takes a job from a victim.
-    fn plan_handover(&mut self, victim: u8, thief: u8, through_ack: bool) {
-        let way = [(thief, victim), (victim, 0), (0, victim), (victim, thief)];
+    /// A thief takes a job from a victim, up to some stage: FISH, REQ, AUTH, SCHEDULE, ACK.
+    fn plan_handover(&mut self, victim: u8, thief: u8, stages: usize) {
+        let way = [(thief, victim), (victim, 0), (0, victim), (victim, thief), (thief, 0)];
         self.plan.push_back(Task::Event([2, thief, victim]));
-        self.plan.extend(way.map(|(from, to)| Task::Drain(from, to)));
-        if through_ack {
-            self.plan.push_back(Task::Drain(thief, 0));
-        }
+        self.plan.extend(way[..stages].iter().map(|&(from, to)| Task::Drain(from, to)));
     }
 
     /// The next event: noise, or the plan's, or one that looks acceptable.
@@ -134,7 +132,7 @@ impl Driver {
 
     /// An event that the table accepts, of a kind chosen by weight; any where a few kinds have none.
     fn acceptable(&self, rng: &mut Rng, table: &Table) -> [u8; 3] {
-        let tries = (0..6).find_map(|_| {
+        let tries = (0..20).find_map(|_| {
             let code = self.weighted(rng);
             self.of_code(rng, table, code).map(|(a, b)| [code, a, b])
         });
@@ -160,7 +158,9 @@ impl Driver {
             1 => Some((rng.some(table.entries, |job| table.jobs[usize::from(job)].state == 0)?, 0)),
             2 => {
                 let a = rng.some(all, |m| table.alive(m) && machine(m).waits == 0)?;
-                Some((a, rng.some(all, |b| b != a && !table.was_told(a, b))?))
+                let allowed = |b: u8| b != a && !table.was_told(a, b);
+                let rich = rng.some(all, |b| allowed(b) && (0..table.entries).any(|job| pool(b, job) != 0));
+                Some((a, rich.filter(|_| rng.chance(1, 2)).or_else(|| rng.some(all, allowed))?))
             }
             3 => self.deliverable(rng, table),
             4 => {
