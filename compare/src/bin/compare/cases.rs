@@ -1,0 +1,296 @@
+//! The cases: each gives one random input to both implementations and reports where they differ.
+
+use crate::coverage::Coverage;
+use crate::damage;
+use crate::driver::{Aim, Driver};
+use crate::fields;
+use crate::inputs::{self, Draft};
+use crate::library::{Library, PAGE_BUFFER};
+use crate::rng::Rng;
+use second::book::{self, Book};
+use second::table::{Table, BYTES};
+use second::{check, events, isin, page, price};
+
+/// How much was compared (events, tables or inputs), or what differs.
+pub type Outcome = Result<u64, String>;
+
+/// What a case works with.
+pub struct Trial {
+    pub library: Library,
+    pub coverage: Coverage,
+}
+
+fn same<T: PartialEq + std::fmt::Debug>(what: &str, library: T, second: T) -> Result<(), String> {
+    if library == second {
+        Ok(())
+    } else {
+        Err(format!("{what}: the library gives {library:?}, the second implementation {second:?}"))
+    }
+}
+
+fn same_bytes(what: &str, library: &[u8], second: &[u8]) -> Result<(), String> {
+    match (0..library.len()).find(|&at| library[at] != second[at]) {
+        None => Ok(()),
+        Some(at) => {
+            let name = fields::name(at);
+            same(&format!("{what}: byte {at} ({name})"), library[at], second[at])
+        }
+    }
+}
+
+pub fn identifier(trial: &mut Trial, rng: &mut Rng) -> Outcome {
+    let mut identifier = inputs::identifier(rng);
+    match rng.below(8) {
+        0 | 1 => {}
+        2 => identifier = (0..rng.below(40)).map(|_| rng.byte()).collect(),
+        _ => inputs::damage_identifier(rng, &mut identifier),
+    }
+    let number = isin::verdict(&identifier);
+    trial.coverage.identifiers[usize::from(number)] += 1;
+    same(&format!("identifier {identifier:02X?}"), trial.library.identifier(&identifier), number)?;
+    Ok(1)
+}
+
+pub fn term(trial: &mut Trial, rng: &mut Rng) -> Outcome {
+    let mut term = inputs::term(rng);
+    (0..rng.pick(&[0, 1, 1, 1, 2])).for_each(|_| inputs::damage_term(rng, &mut term));
+    let before = rng.next();
+    let answer = match book::term(&term) {
+        Some(bond) => (0, bond.price()),
+        None => (7, before),
+    };
+    trial.coverage.terms[usize::from(answer.0)] += 1;
+    same(&format!("term {term:02X?}"), trial.library.term(&term, before), answer)?;
+    Ok(1)
+}
+
+pub fn price(trial: &mut Trial, rng: &mut Rng) -> Outcome {
+    let periods = rng.byte();
+    let (coupon, ytm) = (inputs::float(rng), inputs::float(rng));
+    let what = format!("price of {periods} periods, coupon {coupon:?}, yield {ytm:?}");
+    let library = (trial.library.price_zero(periods, ytm), trial.library.price_fixed(periods, coupon, ytm));
+    let second = (price::price_zero(periods, ytm), price::price_fixed(periods, coupon, ytm));
+    trial.coverage.prices += 2;
+    same(&what, library, second)?;
+    Ok(1)
+}
+
+/// A book, its number by `rakhvide_book`, the table opened from it, and its page with few events.
+pub fn book(trial: &mut Trial, rng: &mut Rng) -> Outcome {
+    let (machines, entries) = inputs::sizes(rng);
+    let mut draft = Draft::new(rng, machines, entries);
+    (0..rng.pick(&[0, 1, 1, 2, 3])).for_each(|_| draft.damage(rng));
+    let mut bytes = draft.bytes();
+    match rng.below(12) {
+        0 => bytes.truncate(rng.below(bytes.len() + 1)),
+        1 => bytes.truncate(rng.below(6)),
+        2 => bytes.extend([0; 31].iter().take(1 + rng.below(31))),
+        _ => {}
+    }
+    let number = Book::read(&bytes).err().unwrap_or(0);
+    trial.coverage.books[usize::from(number)] += 1;
+    same(&format!("book {bytes:02X?}"), trial.library.book(&bytes), number)?;
+    opened(trial, rng, &bytes)?;
+    let events: Vec<u8> = (0..rng.below(12)).map(|_| rng.number(8)).collect();
+    same_page(trial, rng, &bytes, &events)?;
+    Ok(1)
+}
+
+/// The table opened from a book, in a buffer that is mostly of the right length.
+fn opened(trial: &mut Trial, rng: &mut Rng, book: &[u8]) -> Result<Vec<u8>, String> {
+    let length = if rng.chance(1, 20) { rng.pick(&[0, 1, BYTES - 1, BYTES + 1]) } else { BYTES };
+    let before: Vec<u8> = (0..length).map(|at| (at % 251) as u8).collect();
+    let (number, after) = match Book::read(book) {
+        Err(number) => (number, before.clone()),
+        Ok(_) if length != BYTES => (9, before.clone()),
+        Ok(book) => (0, Table::open(&book).to_bytes().to_vec()),
+    };
+    let mut table = before;
+    trial.coverage.opened[usize::from(number)] += 1;
+    same("open", trial.library.open(book, &mut table), number)?;
+    same_bytes("open", &table, &after)?;
+    Ok(table)
+}
+
+/// The page, its length and the whole buffer; now and then a buffer that is too short.
+fn same_page(trial: &mut Trial, rng: &mut Rng, book: &[u8], events: &[u8]) -> Result<(), String> {
+    let short = rng.chance(1, 20);
+    let buffer =
+        vec![0xEE; if short { rng.pick(&[0, 1, PAGE_BUFFER - 1]) } else { PAGE_BUFFER + rng.below(3) }];
+    let text = if short { String::new() } else { page::page(book, events) };
+    let (written, length, after) = trial.library.page(book, events, &buffer);
+    same("page written", written, !short)?;
+    same("page length", length, text.len())?;
+    if let Some(at) = (0..text.len()).find(|&at| after[at] != text.as_bytes()[at]) {
+        let line = text[..at].matches('\n').count();
+        let library = String::from_utf8_lossy(&after[..length]).into_owned();
+        return same(
+            "page line",
+            library.lines().nth(line).unwrap_or(""),
+            text.lines().nth(line).unwrap_or(""),
+        );
+    }
+    same("page buffer past the page", after[length..].iter().all(|&byte| byte == 0xEE), true)?;
+    trial.coverage.pages += 1;
+    trial.coverage.longest_page = trial.coverage.longest_page.max(text.len());
+    Ok(())
+}
+
+/// A run: a book that passes, its table, events chosen from the table's state, and at the end its page.
+pub fn run(trial: &mut Trial, rng: &mut Rng) -> Outcome {
+    let (bytes, aim) = book_of_run(rng);
+    let mut table = Table::open(&Book::read(&bytes).expect("a book that passes"));
+    let mut kept = vec![0; BYTES];
+    same("open", trial.library.open(&bytes, &mut kept), 0)?;
+    same_bytes("open", &kept, &table.to_bytes())?;
+    let mut driver = Driver::new(rng, aim, &table);
+    let mut list = Vec::new();
+    let mut length = 0;
+    while !ends(rng, aim, length, &table) {
+        let event = driver.next(rng, &table);
+        length += 1;
+        list.extend(event.get(..3).unwrap_or(&[]));
+        let number =
+            step(trial, &mut table, &mut kept, &event).map_err(|text| format!("event {length} {text}"))?;
+        trial.coverage.answers.count(&event, number);
+        trial.coverage.table(&table);
+    }
+    extend_list(rng, &mut list, &table);
+    same_page(trial, rng, &bytes, &list)?;
+    trial.coverage.runs += 1;
+    Ok(length)
+}
+
+/// Whether a run ends here: soon where the root alone is alive, and not before a full channel where this is
+/// the aim.
+fn ends(rng: &mut Rng, aim: Aim, length: u64, table: &Table) -> bool {
+    let root_alone = (1..table.machines).all(|machine| !table.alive(machine));
+    match aim {
+        Aim::Flood => length >= 1400,
+        _ => length >= 1000 || rng.chance(1, if root_alone { 20 } else { 400 }),
+    }
+}
+
+fn book_of_run(rng: &mut Rng) -> (Vec<u8>, Aim) {
+    let aims =
+        [Aim::Mixed, Aim::Mixed, Aim::Mixed, Aim::Mixed, Aim::Mixed, Aim::Deaths, Aim::Deaths, Aim::Noise];
+    let aim = if rng.chance(1, 25) { Aim::Flood } else { rng.pick(&aims) };
+    let (machines, entries) = match (aim, inputs::sizes(rng)) {
+        (Aim::Flood, (machines, _)) => (machines.max(3), 64),
+        (Aim::Deaths, (_, entries)) => (16 - rng.below(9) as u16, entries.max(1)),
+        (_, sizes) => sizes,
+    };
+    (Draft::new(rng, machines, entries).bytes(), aim)
+}
+
+/// A page's list may end with a broken event; some lists are longer than what is read.
+fn extend_list(rng: &mut Rng, list: &mut Vec<u8>, table: &Table) {
+    if rng.chance(1, 50) {
+        while list.len() < page::EVENT_BYTES - 3 + 3 * rng.below(8) {
+            list.extend([1 + rng.number(7), rng.number(table.machines), rng.number(table.machines)]);
+        }
+    }
+    let end: [u8; 2] = [1 + rng.number(7), rng.number(2)];
+    list.extend(&end[..rng.below(3)]);
+}
+
+/// One event on both; number and all bytes afterwards are compared.
+fn step(trial: &mut Trial, table: &mut Table, kept: &mut Vec<u8>, event: &[u8]) -> Result<u8, String> {
+    let oldest = match *event {
+        [3, a, b, ..] => table.in_flight().iter().find(|m| m.from == a && m.to == b).copied(),
+        _ => None,
+    };
+    let before = oldest.map(|_| table.clone());
+    let number = events::step(table, event);
+    let library = trial.library.step(kept, event);
+    same(&format!("{event:?}"), library, number)?;
+    same_bytes(&format!("{event:?} answered {number}"), kept, &table.to_bytes())?;
+    if let (Some(message), Some(before), 0) = (oldest, before, number) {
+        trial.coverage.delivered(&message, &before, table);
+    }
+    Ok(number)
+}
+
+/// A table that some run reaches, by the second implementation alone.
+pub fn reached(rng: &mut Rng) -> Table {
+    let (bytes, aim) = book_of_run(rng);
+    let mut table = Table::open(&Book::read(&bytes).expect("a book that passes"));
+    let mut driver = Driver::new(rng, aim, &table);
+    let length = if aim == Aim::Flood { 1250 } else { rng.below(500) };
+    for _ in 0..length {
+        let event = driver.next(rng, &table);
+        events::answer(&mut table, &event);
+    }
+    table
+}
+
+/// Tables made from one that a run reaches: changed, given to check and then to some events.
+pub fn damaged(trial: &mut Trial, rng: &mut Rng) -> Outcome {
+    let table = reached(rng);
+    let tables = 50;
+    for number in 0..tables {
+        let mut changed = table.clone();
+        (0..rng.pick(&[0, 1, 3, 8])).for_each(|_| damage::benign(rng, &mut changed));
+        let event = event_for(rng, &changed);
+        if rng.chance(1, 12) {
+            damage::targeted(rng, &mut changed);
+        }
+        let mut kept = changed.to_bytes().to_vec();
+        if rng.chance(3, 5) {
+            (0..rng.pick(&[1, 1, 1, 2])).for_each(|_| damage::harm(rng, &mut kept));
+        }
+        if rng.chance(1, 40) {
+            kept.resize(rng.pick(&[0, 1, BYTES - 1, BYTES + 1]), 0);
+        }
+        one_damaged(trial, rng, kept, &event).map_err(|text| format!("damaged table {number}: {text}"))?;
+    }
+    Ok(tables)
+}
+
+/// The oldest message of all is delivered, or some other event that looks acceptable.
+fn event_for(rng: &mut Rng, table: &Table) -> Vec<u8> {
+    match table.in_flight().first() {
+        Some(message) if rng.chance(1, 3) => vec![3, message.from, message.to],
+        _ => Driver::plain().next(rng, table),
+    }
+}
+
+fn one_damaged(trial: &mut Trial, rng: &mut Rng, mut kept: Vec<u8>, event: &[u8]) -> Result<(), String> {
+    let read = Table::from_bytes(&kept);
+    let fault = match &read {
+        None => Some(None),
+        Some(table) => check::check(table).err().map(Some),
+    };
+    let number = if fault.is_some() { 9 } else { 0 };
+    same(&format!("check ({fault:?})"), trial.library.check(&kept), number)?;
+    match (fault, read) {
+        (None, Some(mut table)) => {
+            trial.coverage.damaged_passed += 1;
+            some_steps(trial, rng, &mut table, &mut kept, event)
+        }
+        (fault, _) => {
+            *trial.coverage.faults.entry(fault.flatten()).or_default() += 1;
+            let before = kept.clone();
+            trial.coverage.damaged_answers.count(event, 9);
+            same(&format!("{event:?}"), trial.library.step(&mut kept, event), 9)?;
+            same_bytes(&format!("{event:?} answered 9"), &kept, &before)
+        }
+    }
+}
+
+/// The event, and some more that the table accepts.
+fn some_steps(
+    trial: &mut Trial,
+    rng: &mut Rng,
+    table: &mut Table,
+    kept: &mut Vec<u8>,
+    event: &[u8],
+) -> Result<(), String> {
+    let mut event = event.to_vec();
+    for _ in 0..1 + rng.below(8) {
+        let number = step(trial, table, kept, &event)?;
+        trial.coverage.damaged_answers.count(&event, number);
+        event = event_for(rng, table);
+    }
+    Ok(())
+}

@@ -1,0 +1,167 @@
+//! What the input reached: printed at the end, and held to what it must reach.
+
+use second::check::Fault;
+use second::table::*;
+use std::collections::BTreeMap;
+
+pub const KINDS: [&str; 10] =
+    ["", "FISH", "REQ", "AUTH", "DENIED", "OBSOLETE", "SCHEDULE", "ACK", "NOWORK", "RESULT"];
+const EVENTS: [&str; 8] = ["none", "Admit", "Steal", "Deliver", "Start", "Done", "Die", "Notice"];
+
+/// The numbers that each event can get on a table that passes check 9, document 01's last table.
+const EXPECTED: [&[u8]; 8] = [
+    &[10],
+    &[0, 10, 11, 13],
+    &[0, 10, 11, 12, 14, 16],
+    &[0, 10, 11, 15],
+    &[0, 10, 11, 12, 17, 18],
+    &[0, 10, 11, 12, 16, 19],
+    &[0, 10, 11, 12, 20],
+    &[0, 10, 11, 12, 21, 22],
+];
+
+/// What can come of a delivered message: the kind of the message that is sent, or what else changes.
+const OUTCOMES: [(u8, &[&str]); 9] = [
+    (FISH, &["NOWORK", "REQ", "nothing"]),
+    (REQ, &["AUTH", "DENIED", "OBSOLETE"]),
+    (AUTH, &["SCHEDULE", "machine changed", "nothing"]),
+    (DENIED, &["NOWORK", "machine changed", "nothing"]),
+    (OBSOLETE, &["NOWORK", "machine changed", "nothing"]),
+    (SCHEDULE, &["ACK"]),
+    (ACK, &["job changed", "nothing"]),
+    (NOWORK, &["machine changed", "nothing"]),
+    (RESULT, &["job changed", "nothing"]),
+];
+
+/// Answers by event code (0: no code of document 01) and number.
+#[derive(Default)]
+pub struct Answers([[u64; 23]; 8]);
+
+impl Answers {
+    pub fn count(&mut self, event: &[u8], number: u8) {
+        let code = event.first().filter(|code| (1..=7).contains(*code)).map_or(0, |code| *code);
+        self.0[usize::from(code)][usize::from(number).min(22)] += 1;
+    }
+
+    fn print(&self, title: &str) {
+        println!("{title}");
+        for (name, row) in EVENTS.iter().zip(&self.0) {
+            let seen = row.iter().enumerate().filter(|(_, count)| **count > 0);
+            let text: Vec<String> = seen.map(|(number, count)| format!("{number}: {count}")).collect();
+            println!("  {name:8} {}", text.join("  "));
+        }
+    }
+
+    fn missing(&self) -> impl Iterator<Item = String> + '_ {
+        (0..8).flat_map(move |code| {
+            let never = EXPECTED[code].iter().filter(move |&&number| self.0[code][usize::from(number)] == 0);
+            never.map(move |number| format!("{} {number}", EVENTS[code]))
+        })
+    }
+}
+
+#[derive(Default)]
+pub struct Coverage {
+    /// Cases of simple inputs by their number.
+    pub identifiers: [u64; 23],
+    pub terms: [u64; 23],
+    pub books: [u64; 23],
+    pub opened: [u64; 23],
+    pub prices: u64,
+    pub pages: u64,
+    pub longest_page: usize,
+    pub runs: u64,
+    /// Events of runs, and those given to damaged tables.
+    pub answers: Answers,
+    pub damaged_answers: Answers,
+    /// Messages handled, by kind and what came of it.
+    pub handled: BTreeMap<(u8, &'static str), u64>,
+    pub most_in_flight: u8,
+    pub largest_replica: u8,
+    pub damaged_passed: u64,
+    /// None: bytes that are no table.
+    pub faults: BTreeMap<Option<Fault>, u64>,
+}
+
+impl Coverage {
+    /// A delivered message, between the table before and the table after.
+    pub fn delivered(&mut self, message: &Message, before: &Table, after: &Table) {
+        let sent = after.in_flight == before.in_flight;
+        let job = usize::from(message.job);
+        let outcome = if sent && after.in_flight > 0 {
+            KINDS[usize::from(after.messages[usize::from(after.in_flight) - 1].kind)]
+        } else if before.jobs[job] != after.jobs[job] {
+            "job changed"
+        } else if before.machine != after.machine {
+            "machine changed"
+        } else {
+            "nothing"
+        };
+        *self.handled.entry((message.kind, outcome)).or_default() += 1;
+    }
+
+    pub fn table(&mut self, table: &Table) {
+        self.most_in_flight = self.most_in_flight.max(table.in_flight);
+        let largest = table.jobs.iter().map(|job| job.replica).max();
+        self.largest_replica = self.largest_replica.max(largest.unwrap_or(0));
+    }
+
+    pub fn print(&self) {
+        for (name, counts) in [
+            ("identifiers", &self.identifiers),
+            ("terms", &self.terms),
+            ("books", &self.books),
+            ("opened", &self.opened),
+        ] {
+            let seen = counts.iter().enumerate().filter(|(_, count)| **count > 0);
+            let text: Vec<String> = seen.map(|(number, count)| format!("{number}: {count}")).collect();
+            println!("{name:12} {}", text.join("  "));
+        }
+        println!("prices       {}", self.prices);
+        println!(
+            "runs         {}; pages {}, the longest of {} bytes",
+            self.runs, self.pages, self.longest_page
+        );
+        self.answers.print("answers to the events of runs");
+        println!("most messages in flight {}; largest replica {}", self.most_in_flight, self.largest_replica);
+        println!("messages handled, by what came of them");
+        for ((kind, outcome), count) in &self.handled {
+            println!("  {:8} {outcome:16} {count}", KINDS[usize::from(*kind)]);
+        }
+        self.print_damaged();
+    }
+
+    fn print_damaged(&self) {
+        let failed: u64 = self.faults.values().sum();
+        println!(
+            "damaged tables: {} passed check 9, {failed} did not, by what was found first:",
+            self.damaged_passed
+        );
+        for (fault, count) in &self.faults {
+            match fault {
+                Some(fault) => println!("  {:24} {count}", format!("{fault:?}")),
+                None => println!("  {:24} {count}", "no table"),
+            }
+        }
+        self.damaged_answers.print("answers to the events on damaged tables");
+    }
+
+    /// What should have been reached and was not.
+    pub fn missing(&self) -> Vec<String> {
+        let mut missing: Vec<String> = self.answers.missing().collect();
+        let faults = Fault::ALL.iter().filter(|fault| !self.faults.contains_key(&Some(**fault)));
+        missing.extend(faults.map(|fault| format!("{fault:?}")));
+        let outcomes =
+            OUTCOMES.iter().flat_map(|(kind, all)| all.iter().map(move |outcome| (*kind, *outcome)));
+        let never = outcomes.filter(|outcome| !self.handled.contains_key(outcome));
+        missing.extend(never.map(|(kind, outcome)| format!("{} {outcome}", KINDS[usize::from(kind)])));
+        missing.extend((1..=7u8).filter(|n| self.books[usize::from(*n)] == 0).map(|n| format!("book {n}")));
+        if self.most_in_flight < 128 {
+            missing.push("128 in flight".into());
+        }
+        if self.largest_replica < 5 {
+            missing.push("replica 5".into());
+        }
+        missing
+    }
+}

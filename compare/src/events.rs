@@ -1,0 +1,295 @@
+//! The seven events and the handling of the nine kinds of message, with their refusals in order.
+
+use crate::check::check;
+use crate::table::*;
+
+/// Nothing, or the number of a refusal.
+type Answer = Result<(), u8>;
+
+/// One event on any table: check 9, then the event. The table changes only where the answer is 0.
+pub fn step(table: &mut Table, event: &[u8]) -> u8 {
+    match check(table) {
+        Ok(()) => answer(table, event),
+        Err(_) => 9,
+    }
+}
+
+/// One event on a table that passes check 9.
+pub fn answer(table: &mut Table, event: &[u8]) -> u8 {
+    match accept(table, event) {
+        Ok(()) => 0,
+        Err(number) => number,
+    }
+}
+
+fn refuse(condition: bool, number: u8) -> Answer {
+    if condition {
+        Err(number)
+    } else {
+        Ok(())
+    }
+}
+
+/// 10: "code not 1 to 7, unused b not 0, or fewer than three bytes"; 11: "machine or entry number too
+/// large"; then the event's own refusals.
+fn accept(table: &mut Table, event: &[u8]) -> Answer {
+    let &[code, a, b, ..] = event else { return Err(10) };
+    refuse(!(1..=7).contains(&code) || (matches!(code, 1 | 5 | 6) && b != 0), 10)?;
+    let a_limit = if code == 1 { table.entries } else { table.machines };
+    let b_limit = if code == 4 { table.entries } else { table.machines };
+    refuse(a >= a_limit || (matches!(code, 2 | 3 | 4 | 7) && b >= b_limit), 11)?;
+    match code {
+        1 => admit(table, a),
+        2 => steal(table, a, b),
+        3 => deliver(table, a, b),
+        4 => start(table, a, b),
+        5 => done(table, a),
+        6 => die(table, a),
+        _ => notice(table, a, b),
+    }
+}
+
+/// "job a becomes open, replica 1, on 0, and enters the root's pool."
+fn admit(table: &mut Table, a: u8) -> Answer {
+    let job = &mut table.jobs[usize::from(a)];
+    refuse(job.state != NOT_ADMITTED, 13)?;
+    *job = Job { state: OPEN, replica: 1, ..Job::NONE };
+    table.add_to_pool(0, a, 1);
+    Ok(())
+}
+
+/// "thief a sends FISH to b and waits on b."
+fn steal(table: &mut Table, a: u8, b: u8) -> Answer {
+    refuse(!table.alive(a), 12)?;
+    refuse(a == b || table.machine[usize::from(a)].waits != 0 || table.was_told(a, b), 14)?;
+    refuse(table.full(), 16)?;
+    table.send(Message { kind: FISH, from: a, to: b, ..Message::NONE });
+    table.machine[usize::from(a)].waits = b + 1;
+    Ok(())
+}
+
+/// "the oldest message from a to b is taken off and handled by b."
+fn deliver(table: &mut Table, a: u8, b: u8) -> Answer {
+    let message = table.take(a, b).ok_or(15)?;
+    match message.kind {
+        FISH => fish(table, &message),
+        REQ => req(table, &message),
+        AUTH | DENIED | OBSOLETE => reply(table, &message),
+        SCHEDULE => schedule(table, &message),
+        ACK => ack(table, &message),
+        NOWORK => table.machine[usize::from(b)].waits = 0,
+        _ => result(table, &message),
+    }
+    Ok(())
+}
+
+/// "machine a moves job b from its pool to running."
+fn start(table: &mut Table, a: u8, b: u8) -> Answer {
+    let machine = &mut table.machine[usize::from(a)];
+    let pooled = &mut table.pools[usize::from(a)][usize::from(b)];
+    refuse(machine.alive != 1, 12)?;
+    refuse(machine.running.is_some(), 17)?;
+    refuse(*pooled == 0, 18)?;
+    machine.running = Held { job: b, replica: *pooled, thief: 0 };
+    *pooled = 0;
+    Ok(())
+}
+
+/// "the running copy goes and RESULT with its price is sent to the root."
+fn done(table: &mut Table, a: u8) -> Answer {
+    let Held { job, replica, .. } = table.machine[usize::from(a)].running;
+    refuse(!table.alive(a), 12)?;
+    refuse(replica == 0, 19)?;
+    refuse(table.full(), 16)?;
+    let price = table.bonds[usize::from(job)].price();
+    table.machine[usize::from(a)].running = Held::NONE;
+    table.send(Message { kind: RESULT, from: a, to: 0, job, replica, thief: 0, price });
+    Ok(())
+}
+
+/// "its pool, reserved, running and waiting are cleared; messages to it are dropped; those it sent stay in
+/// flight."
+fn die(table: &mut Table, a: u8) -> Answer {
+    refuse(a == 0, 20)?;
+    refuse(!table.alive(a), 12)?;
+    table.machine[usize::from(a)] = Machine::NONE;
+    table.pools[usize::from(a)] = [0; ENTRIES];
+    table.drop_messages(|message| message.to == a);
+    Ok(())
+}
+
+/// "a is told that b is dead. Undelivered messages from b to a are dropped. If a waits on b, it stops
+/// waiting. If its reserved copy is for thief b, the copy returns to the pool."
+fn notice(table: &mut Table, a: u8, b: u8) -> Answer {
+    refuse(!table.alive(a), 12)?;
+    refuse(table.alive(b), 21)?;
+    refuse(table.was_told(a, b), 22)?;
+    table.told[usize::from(a)][usize::from(b)] = 1;
+    table.drop_messages(|message| message.from == b && message.to == a);
+    let machine = &mut table.machine[usize::from(a)];
+    if machine.waits == b + 1 {
+        machine.waits = 0;
+    }
+    let reserved = machine.reserved;
+    if reserved.is_some() && reserved.thief == b {
+        return_reserved(table, a);
+    }
+    if a == 0 {
+        recover(table, b);
+    }
+    Ok(())
+}
+
+/// "If a is the root, each open job on b, or moving from or to b, gets the next replica number, is on 0,
+/// and enters the root's pool."
+fn recover(table: &mut Table, b: u8) {
+    for number in 0..table.entries {
+        let job = &mut table.jobs[usize::from(number)];
+        if job.state == OPEN && job.concerns(b) {
+            job.replica += 1;
+            job.put_on(0);
+            let replica = job.replica;
+            table.add_to_pool(0, number, replica);
+        }
+    }
+}
+
+/// The reserved copy returns to the pool.
+fn return_reserved(table: &mut Table, machine: u8) {
+    let Held { job, replica, .. } = table.machine[usize::from(machine)].reserved;
+    table.machine[usize::from(machine)].reserved = Held::NONE;
+    table.add_to_pool(machine, job, replica);
+}
+
+fn send_nowork(table: &mut Table, from: u8, to: u8) {
+    table.send(Message { kind: NOWORK, from, to, ..Message::NONE });
+}
+
+/// "FISH from t: with a reserved copy or an empty pool, send t NOWORK; otherwise the lowest job leaves the
+/// pool and becomes the copy reserved for t, and REQ (job, replica, t) goes to the root."
+fn fish(table: &mut Table, message: &Message) {
+    let (victim, thief) = (message.to, message.from);
+    let pool = &mut table.pools[usize::from(victim)];
+    let reserved = &mut table.machine[usize::from(victim)].reserved;
+    let lowest = pool.iter().position(|&replica| replica != 0);
+    match lowest {
+        Some(job) if !reserved.is_some() => {
+            let replica = std::mem::take(&mut pool[job]);
+            let job = job as u8;
+            *reserved = Held { job, replica, thief };
+            table.send(Message { kind: REQ, from: victim, to: 0, job, replica, thief, price: 0 });
+        }
+        _ => send_nowork(table, victim, thief),
+    }
+}
+
+/// "REQ from v: if the job is priced or the replica is not current, OBSOLETE to v; else if the root was
+/// told t is dead, or the job is moving, DENIED; else the job moves from v to t, AUTH. Each of these three
+/// goes to v."
+fn req(table: &mut Table, message: &Message) {
+    let (root, victim, thief) = (message.to, message.from, message.thief);
+    let thief_dead = table.was_told(root, thief);
+    let job = &mut table.jobs[usize::from(message.job)];
+    let kind = if job.state == PRICED || job.replica != message.replica {
+        OBSOLETE
+    } else if thief_dead || job.moving == 1 {
+        DENIED
+    } else {
+        job.move_between(victim, thief);
+        AUTH
+    };
+    table.send(Message { kind, from: root, to: victim, ..*message });
+}
+
+/// "AUTH, DENIED, OBSOLETE repeat job, replica and thief. Unless all three match the reserved copy they do
+/// nothing. AUTH sends t SCHEDULE (job, replica) and the reserved copy is gone; DENIED returns the copy to
+/// the pool and sends t NOWORK; OBSOLETE discards it and sends t NOWORK."
+fn reply(table: &mut Table, message: &Message) {
+    let Message { kind, to: victim, job, replica, thief, .. } = *message;
+    if table.machine[usize::from(victim)].reserved != (Held { job, replica, thief }) {
+        return;
+    }
+    if kind == DENIED {
+        return_reserved(table, victim);
+    }
+    table.machine[usize::from(victim)].reserved = Held::NONE;
+    if kind == AUTH {
+        table.send(Message { kind: SCHEDULE, from: victim, to: thief, job, replica, ..Message::NONE });
+    } else {
+        send_nowork(table, victim, thief);
+    }
+}
+
+/// "SCHEDULE: the copy enters the pool, waiting ends, ACK (job, replica) goes to the root."
+fn schedule(table: &mut Table, message: &Message) {
+    let Message { to: thief, job, replica, .. } = *message;
+    table.add_to_pool(thief, job, replica);
+    table.machine[usize::from(thief)].waits = 0;
+    table.send(Message { kind: ACK, from: thief, to: 0, job, replica, ..Message::NONE });
+}
+
+/// "ACK from t: if the job is open and the replica current, the job is on t; else nothing."
+fn ack(table: &mut Table, message: &Message) {
+    let job = &mut table.jobs[usize::from(message.job)];
+    if job.state == OPEN && job.replica == message.replica {
+        job.put_on(message.from);
+    }
+}
+
+/// "RESULT: an open job becomes priced with this price, whichever replica it came from; any other job is
+/// untouched."
+fn result(table: &mut Table, message: &Message) {
+    let job = &mut table.jobs[usize::from(message.job)];
+    if job.state == OPEN {
+        job.state = PRICED;
+        job.price = message.price;
+    }
+}
+
+#[cfg(test)]
+mod tests {
+    use super::*;
+    use crate::book::Book;
+    use crate::page::tests::LISTING_BOOK;
+
+    fn played(events: &[[u8; 3]]) -> Table {
+        let mut table = Table::open(&Book::read(LISTING_BOOK).unwrap());
+        for event in events {
+            assert_eq!(step(&mut table, event), 0, "{event:?}");
+        }
+        table
+    }
+
+    #[test]
+    fn dead_thief_is_denied() {
+        let mut table = played(&[[1, 0, 0], [2, 1, 0], [3, 1, 0], [6, 1, 0], [7, 0, 1]]);
+        assert_eq!(table.machine[0].reserved, Held::NONE);
+        assert_eq!(step(&mut table, &[3, 0, 0]), 0);
+        assert_eq!(table.in_flight()[0].kind, DENIED);
+    }
+
+    #[test]
+    fn late_ack_leaves_the_place() {
+        let mut table = played(&[[1, 0, 0], [2, 1, 0], [3, 1, 0], [3, 0, 0], [3, 0, 0], [3, 0, 1]]);
+        table.jobs[0] = Job { state: OPEN, replica: 2, ..Job::NONE };
+        assert_eq!(answer(&mut table, &[3, 1, 0]), 0);
+        assert_eq!(table.jobs[0], Job { state: OPEN, replica: 2, ..Job::NONE });
+    }
+
+    #[test]
+    fn refusals() {
+        let refused = |event: &[u8]| step(&mut played(&[[1, 0, 0]]), event);
+        assert_eq!(refused(&[1, 0]), 10);
+        assert_eq!(refused(&[8, 0, 0]), 10);
+        assert_eq!(refused(&[6, 1, 1]), 10);
+        assert_eq!(refused(&[1, 2, 0]), 11);
+        assert_eq!(refused(&[4, 0, 2]), 11);
+        assert_eq!(refused(&[1, 0, 0]), 13);
+        assert_eq!(refused(&[2, 1, 1]), 14);
+        assert_eq!(refused(&[3, 0, 1]), 15);
+        assert_eq!(refused(&[4, 0, 1]), 18);
+        assert_eq!(refused(&[5, 0, 0]), 19);
+        assert_eq!(refused(&[6, 0, 0]), 20);
+        assert_eq!(refused(&[7, 0, 1]), 21);
+    }
+}

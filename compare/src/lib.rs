@@ -1,0 +1,12 @@
+//! A second opinion on document 01: the same rules, written from its text alone.
+//!
+//! Nothing here is proved and nothing is shared with the proved crates; `compare` runs both on the same
+//! input and reports the first difference. Quoted sentences are document 01's.
+
+pub mod book;
+pub mod check;
+pub mod events;
+pub mod isin;
+pub mod page;
+pub mod price;
+pub mod table;

@@ -1,0 +1,87 @@
+//! Terms of a bond and its price, in binary64.
+
+/// "a bond's terms are one of two cases, zero or fixed, each carrying its rates"
+#[derive(Clone, Copy, Debug)]
+pub enum Terms {
+    Zero { ytm: f64 },
+    Fixed { coupon: f64, ytm: f64 },
+}
+
+/// An entry's terms with their count of half-years.
+#[derive(Clone, Copy, Debug)]
+pub struct Bond {
+    pub periods: u8,
+    pub terms: Terms,
+}
+
+/// The bits that stand for every NaN.
+const NAN_BITS: u64 = 0x7FF8_0000_0000_0000;
+
+impl Bond {
+    /// What stands where there is no entry: all 0.
+    pub const NONE: Bond = Bond { periods: 0, terms: Terms::Zero { ytm: 0.0 } };
+
+    /// Whether every bit of it is clear.
+    pub fn is_none(&self) -> bool {
+        self.periods == 0 && matches!(self.terms, Terms::Zero { ytm } if ytm.to_bits() == 0)
+    }
+
+    /// "periods (1 to 240 half-years) [..] Coupon lies from 0 to 100, yield from 0 to 1, ends included; a
+    /// NaN is outside. Negative zero is inside"
+    pub fn in_range(&self) -> bool {
+        let rates = match self.terms {
+            Terms::Zero { ytm } => (0.0..=1.0).contains(&ytm),
+            Terms::Fixed { coupon, ytm } => (0.0..=100.0).contains(&coupon) && (0.0..=1.0).contains(&ytm),
+        };
+        (1..=240).contains(&self.periods) && rates
+    }
+
+    /// The bits of the price.
+    pub fn price(&self) -> u64 {
+        match self.terms {
+            Terms::Zero { ytm } => price_zero(self.periods, ytm),
+            Terms::Fixed { coupon, ytm } => price_fixed(self.periods, coupon, ytm),
+        }
+    }
+}
+
+/// "Let d = 1 + yield / 2. Start from 100. Once per period, [..] a zero takes p / d."
+pub fn price_zero(periods: u8, ytm: f64) -> u64 {
+    let d = 1.0 + ytm / 2.0;
+    bits((0..periods).fold(100.0, |p, _| p / d))
+}
+
+/// "Once per period, a fixed bond takes (p + coupon / 2) / d"
+pub fn price_fixed(periods: u8, coupon: f64, ytm: f64) -> u64 {
+    let d = 1.0 + ytm / 2.0;
+    bits((0..periods).fold(100.0, |p, _| (p + coupon / 2.0) / d))
+}
+
+fn bits(price: f64) -> u64 {
+    if price.is_nan() {
+        NAN_BITS
+    } else {
+        price.to_bits()
+    }
+}
+
+#[cfg(test)]
+mod tests {
+    use super::*;
+
+    #[test]
+    fn examples() {
+        assert_eq!(price_fixed(2, 4.0, 0.0), 104f64.to_bits());
+        assert_eq!(price_zero(2, 0.5), 64f64.to_bits());
+        assert_eq!(price_fixed(1, 10.0, 0.5), 84f64.to_bits());
+    }
+
+    #[test]
+    fn ranges() {
+        let fixed = |periods, coupon, ytm| Bond { periods, terms: Terms::Fixed { coupon, ytm } }.in_range();
+        assert!(fixed(240, 100.0, 1.0) && fixed(1, -0.0, -0.0));
+        assert!(!fixed(241, 4.0, 0.0) && !fixed(0, 4.0, 0.0));
+        assert!(!fixed(2, 4.0, f64::NAN) && !fixed(2, f64::NAN, 0.0));
+        assert!(!fixed(2, 100.0f64.next_up(), 0.0) && !fixed(2, 4.0, 0.0f64.next_down()));
+    }
+}
