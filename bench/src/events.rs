@@ -5,7 +5,15 @@ use second::{book::Book, events, isin, page, table::Table};
 use std::hint::black_box;
 
 extern "C" {
-    fn rakhvide_page(book: *const u8, nb: usize, events: *const u8, ne: usize, out: *mut u8, no: usize, written: *mut usize) -> bool;
+    fn rakhvide_page(
+        book: *const u8,
+        nb: usize,
+        events: *const u8,
+        ne: usize,
+        out: *mut u8,
+        no: usize,
+        written: *mut usize,
+    ) -> bool;
     fn rakhvide_open(book: *const u8, nb: usize, table: *mut u8, nt: usize) -> u8;
     fn rakhvide_step(table: *mut u8, nt: usize, event: *const u8, ne: usize) -> u8;
     fn rakhvide_check(table: *const u8, nt: usize) -> u8;
@@ -99,7 +107,17 @@ fn kept_numbers(book: &[u8], events: &[u8], table: &mut [u8; TABLE]) -> u32 {
 
 fn proved_page(book: &[u8], events: &[u8], out: &mut [u8]) -> usize {
     let mut written = 0;
-    let long_enough = unsafe { rakhvide_page(book.as_ptr(), book.len(), events.as_ptr(), events.len(), out.as_mut_ptr(), out.len(), &mut written) };
+    let long_enough = unsafe {
+        rakhvide_page(
+            book.as_ptr(),
+            book.len(),
+            events.as_ptr(),
+            events.len(),
+            out.as_mut_ptr(),
+            out.len(),
+            &mut written,
+        )
+    };
     assert!(long_enough);
     written
 }
@@ -119,12 +137,26 @@ fn row(machines: u8, count: usize) {
         rounds,
         count,
         &mut [
-            &mut || drop(black_box(proved_page(&book, &events, &mut out))),
-            &mut || drop(black_box(kept_numbers(&book, &events, &mut kept))),
-            &mut || drop(black_box((0..count).map(|_| unsafe { rakhvide_check(last.as_ptr(), TABLE) } as u32).sum::<u32>())),
-            &mut || drop(black_box(numbers_of(&fresh, &events, events::step))),
-            &mut || drop(black_box(numbers_of(&fresh, &events, events::answer))),
-            &mut || drop(black_box(page::page(&book, &events))),
+            &mut || {
+                black_box(proved_page(&book, &events, &mut out));
+            },
+            &mut || {
+                black_box(kept_numbers(&book, &events, &mut kept));
+            },
+            &mut || {
+                black_box(
+                    (0..count).map(|_| unsafe { rakhvide_check(last.as_ptr(), TABLE) } as u32).sum::<u32>(),
+                );
+            },
+            &mut || {
+                black_box(numbers_of(&fresh, &events, events::step));
+            },
+            &mut || {
+                black_box(numbers_of(&fresh, &events, events::answer));
+            },
+            &mut || {
+                black_box(page::page(&book, &events));
+            },
         ],
     );
     let per_second = 1e9 / times[0];

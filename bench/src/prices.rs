@@ -36,9 +36,27 @@ fn row(periods: u8, coupon: f64) {
     let few = &ys[..ys.len().min(200)];
     let bond = unsafe { quantlib_bond(periods, coupon) };
     let zero = coupon == 0.0;
-    let proved = |y| unsafe { if zero { rakhvide_price_zero(periods, y) } else { rakhvide_price_fixed(periods, coupon, y) } };
-    let c = |y| unsafe { if zero { c_price_zero(periods, y) } else { c_price_fixed(periods, coupon, y) } };
-    let rust = |y| if zero { second::price::price_zero(periods, y) } else { second::price::price_fixed(periods, coupon, y) };
+    let proved = |y| unsafe {
+        if zero {
+            rakhvide_price_zero(periods, y)
+        } else {
+            rakhvide_price_fixed(periods, coupon, y)
+        }
+    };
+    let c = |y| unsafe {
+        if zero {
+            c_price_zero(periods, y)
+        } else {
+            c_price_fixed(periods, coupon, y)
+        }
+    };
+    let rust = |y| {
+        if zero {
+            second::price::price_zero(periods, y)
+        } else {
+            second::price::price_fixed(periods, coupon, y)
+        }
+    };
     for &y in &ys {
         assert_eq!(proved(y), c(y));
         assert_eq!(proved(y), rust(y));
@@ -48,12 +66,25 @@ fn row(periods: u8, coupon: f64) {
         200,
         ys.len(),
         &mut [
-            &mut || drop(black_box(sum(&ys, proved))),
-            &mut || drop(black_box(sum(&ys, c))),
-            &mut || drop(black_box(sum(&ys, rust))),
+            &mut || {
+                black_box(sum(&ys, proved));
+            },
+            &mut || {
+                black_box(sum(&ys, c));
+            },
+            &mut || {
+                black_box(sum(&ys, rust));
+            },
         ],
     );
-    let library = best(20, few.len(), &mut [&mut || drop(black_box(sum(few, |y| unsafe { quantlib_price(bond, y) }.to_bits())))])[0];
+    let quantlib = |y| unsafe { quantlib_price(bond, y) }.to_bits();
+    let library = best(
+        20,
+        few.len(),
+        &mut [&mut || {
+            black_box(sum(few, quantlib));
+        }],
+    )[0];
     println!(
         "| {} of {periods} | {:.1} | {:.1} | {:.1} | {:.0} | {:.2} | {:.2} | {:.4} |",
         if zero { "zero" } else { "fixed" },
