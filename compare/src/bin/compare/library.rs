@@ -164,17 +164,4 @@ impl Library {
         table.copy_from_slice(self.out.get(table.len()));
         number
     }
-
-    /// How many events of a list a kept table accepts, one after another.
-    pub fn play(&mut self, table: &[u8], events: &[u8]) -> usize {
-        let (out, at) = (self.out.put(table), self.second.put(events));
-        let step = |place: usize| unsafe { c::rakhvide_step(out, table.len(), at.add(3 * place), 3) };
-        (0..events.len() / 3).filter(|&place| step(place) == 0).count()
-    }
-
-    /// How often, of so many times, a kept table passes check 9.
-    pub fn check_often(&mut self, table: &[u8], times: usize) -> usize {
-        let at = self.first.put(table);
-        (0..times).filter(|_| unsafe { c::rakhvide_check(at, table.len()) } == 0).count()
-    }
 }

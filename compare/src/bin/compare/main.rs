@@ -3,12 +3,10 @@
 //! compare SEED COUNT                  COUNT thousand events of runs, and the rest in proportion
 //! compare SEED COUNT SECTION INDEX    one case again
 //! compare seeds FOLDER                inputs for the fuzzer
-//! compare bench                       how long an event takes
 //!
 //! Exit status 0: no difference. 1: a difference, which is printed. 2: the input did not reach all that it
 //! should reach, or bad usage.
 
-mod bench;
 mod cases;
 mod coverage;
 mod damage;
@@ -44,16 +42,11 @@ const ENOUGH: u64 = 100;
 
 fn main() -> ExitCode {
     let words: Vec<String> = std::env::args().skip(1).collect();
-    match words.iter().map(String::as_str).collect::<Vec<&str>>()[..] {
-        ["seeds", folder] => {
+    if let [command, folder] = &words[..] {
+        if command == "seeds" {
             seeds::write(folder.as_ref()).expect("the folder can be written");
             return ExitCode::SUCCESS;
         }
-        ["bench"] => {
-            bench::print();
-            return ExitCode::SUCCESS;
-        }
-        _ => {}
     }
     let number = |at: usize| words.get(at).and_then(|word: &String| word.parse::<u64>().ok());
     let mut trial = Trial { library: library::Library::new(), coverage: Default::default() };
