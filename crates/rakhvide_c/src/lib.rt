@@ -8,6 +8,7 @@ ghost use Rattle.term.specs.Term.{termOf};
 ghost use Rattle.book.specs.Book.{bookVerdict};
 ghost use Rattle.page.specs.Page.{eventsOf, printedOf, bufferOf};
 ghost use Rattle.claims.specs.Claims.{Demand3};
+ghost use Rattle.kept.specs.Kept.{checkOf, stepNumber, stepBytes, openNumber, openBytes};
 ghost use Rattle.rakhvide_c.specs.Terms.{termNumber, termBits};
 use pricer::FixedBond;
 use term::Reading;
@@ -95,4 +96,30 @@ pub extern "C" fn rakhvide_page(
     let printed = promised::run_page(book, events, out);
     *length = printed.length;
     printed.written
+}
+
+// Opens a book into the bytes of a kept table: the book's number, 9 for another length, or 0 and the fresh table.
+#[no_mangle]
+pub extern "C" fn rakhvide_open(book: &[u8], table: &mut [u8]) -> u8
+    ensures { λ r. ⌜ r ≡ openNumber (now (book .entry)) (now (table .entry)) ⌝ }
+    ensures { λ _. ⌜ now (table .exit) ≡ openBytes (now (book .entry)) (now (table .entry)) ⌝ }
+{
+    kept::open(book, table)
+}
+
+// Check 9 of a kept table: 0 or 9.
+#[no_mangle]
+pub extern "C" fn rakhvide_check(table: &[u8]) -> u8
+    ensures { λ r. ⌜ r ≡ checkOf (now (table .entry)) ⌝ }
+{
+    kept::check(table)
+}
+
+// One event on a kept table: its number, and where it is 0 the table after it.
+#[no_mangle]
+pub extern "C" fn rakhvide_step(table: &mut [u8], event: &[u8]) -> u8
+    ensures { λ r. ⌜ r ≡ stepNumber (now (table .entry)) (now (event .entry)) ⌝ }
+    ensures { λ _. ⌜ now (table .exit) ≡ stepBytes (now (table .entry)) (now (event .entry)) ⌝ }
+{
+    kept::step(table, event)
 }

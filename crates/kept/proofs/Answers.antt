@@ -1,0 +1,82 @@
+-- Each way in which opening and stepping a kept table end, as their definitions say it. Assumes nothing.
+use Prim.Native.Nat.{ℕ}
+use mathlib.Core.Path.{_≡_, refl, sym, ap, _∙_}
+use mathlib.Core.Logic.{_≢_}
+use mathlib.Core.Bool.{Bool, true, false, cond, true≢false}
+use mathlib.Core.List.{List}
+use borrow.Author.Tests.{eq-eqb, ne-eqb, eqb-true}
+use lib.Dec.{eqb}
+use lib.ListN.{length}
+use Rattle.lists.proofs.Cases.{byBool}
+use Rattle.table.specs.declared.Table.{Table}
+use Rattle.table.specs.declared.Answer.{Answer}
+use Rattle.book.specs.Book.{bookVerdict}
+use Rattle.opening.specs.Opening.{freshOf, openOf}
+use Rattle.dispatcher.specs.Step.{stepOf}
+use Rattle.kept_read.specs.Layout.{formed, tableFrom}
+use Rattle.kept_write.specs.Bytes.{bytesOf}
+use Rattle.kept.specs.Kept.{stepNumber, stepBytes, openNumber, openBytes}
+
+-- the bytes of a table are 5171
+pub formed-length : (s : List ℕ) → formed s ≡ true → length s ≡ 5171
+unfolding formed
+formed-length s e =
+    byBool (eqb (length s) 5171)
+    (λ h. eqb-true (length s) 5171 h)
+    (λ h. let z : _≡_ {A = Bool} false true = rw h at e in absurd (true≢false (sym z)))
+
+-- ---- one event
+
+pub no-table : (s e : List ℕ) → formed s ≡ false → (9 ≡ stepNumber s e) × (s ≡ stepBytes s e)
+unfolding stepNumber stepBytes
+no-table s e f = (rw f, rw f)
+
+-- on bytes that are a table: the step's answer is a
+module _ (s e : List ℕ) (t : Table) (a : Answer) (f : formed s ≡ true) (r : t ≡ tableFrom s) (q : a ≡ stepOf t e) where
+  answered : a ≡ stepOf (tableFrom s) e
+  answered = q ∙ ap (λ (u : Table). stepOf u e) r
+
+  numbered : a .number ≡ stepNumber s e
+  unfolding stepNumber
+  numbered = rw f (ap (λ (x : Answer). x .number) answered)
+
+  pub refused : a .number ≢ 0 → (a .number ≡ stepNumber s e) × (s ≡ stepBytes s e)
+  unfolding stepBytes
+  refused h = (numbered, rw (← numbered, ne-eqb (a .number) 0 h))
+
+  pub accepted : (out : List ℕ) → a .number ≡ 0 → out ≡ bytesOf (a .table) → (0 ≡ stepNumber s e) × (out ≡ stepBytes s e)
+  unfolding stepBytes
+  accepted out z w = (sym z ∙ numbered, rw (← numbered, eq-eqb (a .number) 0 z) (w ∙ ap (λ (x : Answer). bytesOf (x .table)) answered))
+
+-- ---- opening
+
+open-number : (book : List ℕ) → openOf book .number ≡ bookVerdict book
+unfolding openOf
+open-number book = byBool (eqb (bookVerdict book) 0) (λ h. rw h (sym (eqb-true (bookVerdict book) 0 h))) (λ h. rw h)
+
+pub open-fresh : (book : List ℕ) → bookVerdict book ≡ 0 → openOf book .table ≡ freshOf book
+unfolding openOf
+open-fresh book z = rw (eq-eqb (bookVerdict book) 0 z)
+
+-- the opening's answer is a
+module _ (book s : List ℕ) (a : Answer) (q : a ≡ openOf book) where
+  verdict : a .number ≡ bookVerdict book
+  verdict = ap (λ (x : Answer). x .number) q ∙ open-number book
+
+  pub book-refused : a .number ≢ 0 → (a .number ≡ openNumber book s) × (s ≡ openBytes book s)
+  unfolding openNumber openBytes
+  book-refused h = let n : eqb (bookVerdict book) 0 ≡ false = ap (λ (k : ℕ). eqb k 0) (sym verdict) ∙ ne-eqb (a .number) 0 h in (rw n verdict, rw (n, n))
+
+  pub buffer-refused : a .number ≡ 0 → length s ≢ 5171 → (9 ≡ openNumber book s) × (s ≡ openBytes book s)
+  unfolding openNumber openBytes
+  buffer-refused z h =
+      let n : eqb (bookVerdict book) 0 ≡ true = eq-eqb (bookVerdict book) 0 (sym verdict ∙ z) in
+      let l : eqb (length s) 5171 ≡ false = ne-eqb (length s) 5171 h in (rw (n, l), rw (n, l))
+
+  pub opened : (out : List ℕ) → a .number ≡ 0 → length s ≡ 5171 → out ≡ bytesOf (a .table) → (0 ≡ openNumber book s) × (out ≡ openBytes book s)
+  unfolding openNumber openBytes
+  opened out z h w =
+      let v : bookVerdict book ≡ 0 = sym verdict ∙ z in
+      let n : eqb (bookVerdict book) 0 ≡ true = eq-eqb (bookVerdict book) 0 v in
+      let l : eqb (length s) 5171 ≡ true = eq-eqb (length s) 5171 h in
+      (rw (n, l), rw (n, l) (w ∙ ap (λ (x : Answer). bytesOf (x .table)) q ∙ ap bytesOf (open-fresh book v)))

@@ -1,0 +1,79 @@
+-- `kept_read::bonds` meets its contract. The invariant of its loop: the first i elements are read. Assumes nothing.
+use Rattle.lists.proofs.Rules.{tests}
+use Prim.Native.Nat.{ℕ, _+_, _*_, _-_, _≤_}
+use mathlib.Core.Path.{_≡_, ap, _∙_}
+use lib.ListN.{length, set}
+use Rattle.lists.specs.Scan.{padTo, listOf}
+use Rattle.lists.proofs.Scans.{list-none, list-more}
+use lib.Ieee.{binary64, ofBits}
+use Rattle.pricer.specs.declared.Bond.{Bond}
+use Rattle.pricer.specs.declared.Terms.the-variants.{Zero}
+use Rattle.kept_read.specs.Layout.{bondFrom, bondsFrom}
+use Rattle.kept_read.proofs.Filled.{filled}
+use Rattle.kept_read.proofs.bonds.Statement.{statement}
+use Rattle.kept_read.proofs.bonds.Tie as tie
+
+-- what the array holds before it is filled
+abbrev blank : Bond
+blank = record { periods = 0; terms = Zero (ofBits binary64 0) }
+
+abbrev Inv-loop : tie.InvT-loop
+Inv-loop s out₀ i₀ out i = (length s ≡ 5171) × (i ≤ 64) × (out ≡ padTo 64 blank (listOf (λ k. bondFrom s (2 + 18 * k)) i))
+
+abbrev μ-loop : tie.MeasureT-loop
+μ-loop s out₀ i₀ out i = 64 - i
+
+loop-holds : tie.Need-loop-holds Inv-loop μ-loop
+loop-holds c = (search tests, search tests, list-none _ 64 blank)
+
+mul-bond : tie.Need-mul-bond Inv-loop μ-loop
+mul-bond c = search tests
+
+add-bond : tie.Need-add-bond Inv-loop μ-loop
+add-bond c = search tests
+
+bond-requires : tie.Need-bond-requires Inv-loop μ-loop
+bond-requires c κs = search tests
+
+mul-out : tie.Need-mul-out Inv-loop μ-loop
+mul-out c = search tests
+
+array-set-from-out : tie.Need-array-set-from-out Inv-loop μ-loop
+array-set-from-out c = search tests
+
+add-i : tie.Need-add-i Inv-loop μ-loop
+add-i c = search tests
+
+loop-less : tie.Need-loop-less Inv-loop μ-loop
+loop-less c = search tests
+
+loop-again : tie.Need-loop-again Inv-loop μ-loop
+loop-again c =
+    let l = c .before .before in
+    let s = l .before .before .args .s .now in (
+      l .loop .inv .0,
+      search tests,
+      ap (λ (x : Bond). set (l .loop .out) (l .loop .i) x) (c .bond .ensures)
+          ∙ list-more (λ k. bondFrom s (2 + 18 * k)) 64 blank (l .loop .i) (l .loop .out) (search tests) (l .loop .inv .2),
+    )
+
+returns : tie.Need-returns Inv-loop μ-loop
+unfolding bondsFrom
+returns c = filled _ 64 blank (c .before .loop .i) (c .before .loop .out) (search tests) (search tests) (c .before .loop .inv .2)
+
+pub bonds-spec : {M : Type 1} → statement M
+bonds-spec =
+    tie.close
+    (tie.spec
+    Inv-loop
+    μ-loop
+    loop-holds
+    mul-bond
+    add-bond
+    bond-requires
+    mul-out
+    array-set-from-out
+    add-i
+    loop-less
+    loop-again
+    returns)

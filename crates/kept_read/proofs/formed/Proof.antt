@@ -1,0 +1,75 @@
+-- `kept_read::formed` meets its contract. The invariant of its loop: the first i entries have a case. Assumes nothing.
+use Rattle.lists.proofs.Rules.{tests}
+use Prim.Native.Nat.{ℕ, _+_, _*_, _-_, _≤_}
+use mathlib.Core.Path.{_≡_, sym, _∙_}
+use mathlib.Core.Bool.{true}
+use borrow.Author.Tests.{not-true, not-false, eq-eqb}
+use lib.ListN.{length}
+use Rattle.lists.specs.Scan.{all}
+use Rattle.lists.proofs.Rules.{flags}
+use Rattle.lists.proofs.Scans.{all-none, all-more, all-fail, all-end}
+use Rattle.kept_read.specs.Layout.{termsFormed, formed}
+use Rattle.kept_read.proofs.formed.Statement.{statement}
+use Rattle.kept_read.proofs.formed.Tie as tie
+
+abbrev Inv-loop : tie.InvT-loop
+Inv-loop s i₀ i = (length s ≡ 5171) × (i ≤ 64) × (all (λ k. termsFormed s (2 + 18 * k)) i ≡ true)
+
+abbrev μ-loop : tie.MeasureT-loop
+μ-loop s i₀ i = 64 - i
+
+returns : tie.Need-returns Inv-loop μ-loop
+unfolding formed
+returns c = search flags
+
+loop-holds : tie.Need-loop-holds Inv-loop μ-loop
+loop-holds c = (search tests, search tests, all-none _)
+
+mul-terms-formed : tie.Need-mul-terms-formed Inv-loop μ-loop
+mul-terms-formed c = search tests
+
+add-terms-formed : tie.Need-add-terms-formed Inv-loop μ-loop
+add-terms-formed c = search tests
+
+terms-formed-requires : tie.Need-terms-formed-requires Inv-loop μ-loop
+terms-formed-requires c κs = search tests
+
+returns-2 : tie.Need-returns-2 Inv-loop μ-loop
+unfolding formed
+returns-2 c =
+    let s = c .before .before .before .before .before .before .args .s .now in
+    let i = c .before .before .before .loop .i in
+    rw (eq-eqb _ _ (c .before .before .before .loop .inv .0))
+    (sym (all-fail (λ k. termsFormed s (2 + 18 * k)) 64 i (search tests) (sym (c .before .terms-formed .ensures) ∙ not-true _ (c .if2 .taken))))
+
+add-i : tie.Need-add-i Inv-loop μ-loop
+add-i c = search tests
+
+loop-less : tie.Need-loop-less Inv-loop μ-loop
+loop-less c = search tests
+
+loop-again : tie.Need-loop-again Inv-loop μ-loop
+loop-again c = (search tests, search tests, all-more _ _ (search tests) (sym (c .before .terms-formed .ensures) ∙ not-false _ (c .if2 .left)))
+
+returns-3 : tie.Need-returns-3 Inv-loop μ-loop
+unfolding formed
+returns-3 c =
+    rw (eq-eqb _ _ (c .before .loop .inv .0))
+    (all-end _ 64 (c .before .loop .i) (search tests) (search tests) (c .before .loop .inv .2))
+
+pub formed-spec : {M : Type 1} → statement M
+formed-spec =
+    tie.close
+    (tie.spec
+    Inv-loop
+    μ-loop
+    returns
+    loop-holds
+    mul-terms-formed
+    add-terms-formed
+    terms-formed-requires
+    returns-2
+    add-i
+    loop-less
+    loop-again
+    returns-3)

@@ -1,0 +1,74 @@
+-- `kept_read::jobs` meets its contract. The invariant of its loop: the first i elements are read. Assumes nothing.
+use Rattle.lists.proofs.Rules.{tests}
+use Prim.Native.Nat.{ℕ, _+_, _*_, _-_, _≤_}
+use mathlib.Core.Path.{_≡_, ap, _∙_}
+use lib.ListN.{length, set}
+use Rattle.lists.specs.Scan.{padTo, listOf}
+use Rattle.lists.proofs.Scans.{list-none, list-more}
+use Rattle.table.specs.Views.{noJob}
+use Rattle.table.specs.declared.Job.{Job}
+use Rattle.kept_read.specs.Layout.{jobFrom, jobsFrom}
+use Rattle.kept_read.proofs.Filled.{filled}
+use Rattle.kept_read.proofs.jobs.Statement.{statement}
+use Rattle.kept_read.proofs.jobs.Tie as tie
+
+abbrev Inv-loop : tie.InvT-loop
+Inv-loop s out₀ i₀ out i = (length s ≡ 5171) × (i ≤ 64) × (out ≡ padTo 64 noJob (listOf (λ k. jobFrom s (1154 + 13 * k)) i))
+
+abbrev μ-loop : tie.MeasureT-loop
+μ-loop s out₀ i₀ out i = 64 - i
+
+loop-holds : tie.Need-loop-holds Inv-loop μ-loop
+loop-holds c = (search tests, search tests, list-none _ 64 noJob)
+
+mul-job : tie.Need-mul-job Inv-loop μ-loop
+mul-job c = search tests
+
+add-job : tie.Need-add-job Inv-loop μ-loop
+add-job c = search tests
+
+job-requires : tie.Need-job-requires Inv-loop μ-loop
+job-requires c κs = search tests
+
+mul-out : tie.Need-mul-out Inv-loop μ-loop
+mul-out c = search tests
+
+array-set-from-out : tie.Need-array-set-from-out Inv-loop μ-loop
+array-set-from-out c = search tests
+
+add-i : tie.Need-add-i Inv-loop μ-loop
+add-i c = search tests
+
+loop-less : tie.Need-loop-less Inv-loop μ-loop
+loop-less c = search tests
+
+loop-again : tie.Need-loop-again Inv-loop μ-loop
+loop-again c =
+    let l = c .before .before in
+    let s = l .before .before .args .s .now in (
+      l .loop .inv .0,
+      search tests,
+      ap (λ (x : Job). set (l .loop .out) (l .loop .i) x) (c .job .ensures)
+          ∙ list-more (λ k. jobFrom s (1154 + 13 * k)) 64 noJob (l .loop .i) (l .loop .out) (search tests) (l .loop .inv .2),
+    )
+
+returns : tie.Need-returns Inv-loop μ-loop
+unfolding jobsFrom
+returns c = filled _ 64 noJob (c .before .loop .i) (c .before .loop .out) (search tests) (search tests) (c .before .loop .inv .2)
+
+pub jobs-spec : {M : Type 1} → statement M
+jobs-spec =
+    tie.close
+    (tie.spec
+    Inv-loop
+    μ-loop
+    loop-holds
+    mul-job
+    add-job
+    job-requires
+    mul-out
+    array-set-from-out
+    add-i
+    loop-less
+    loop-again
+    returns)

@@ -1,0 +1,74 @@
+-- `kept_read::machines` meets its contract. The invariant of its loop: the first i elements are read. Assumes nothing.
+use Rattle.lists.proofs.Rules.{tests}
+use Prim.Native.Nat.{ℕ, _+_, _*_, _-_, _≤_}
+use mathlib.Core.Path.{_≡_, ap, _∙_}
+use lib.ListN.{length, set}
+use Rattle.lists.specs.Scan.{padTo, listOf}
+use Rattle.lists.proofs.Scans.{list-none, list-more}
+use Rattle.table.specs.Views.{noMachine}
+use Rattle.table.specs.declared.Machine.{Machine}
+use Rattle.kept_read.specs.Layout.{machineFrom, machinesFrom}
+use Rattle.kept_read.proofs.Filled.{filled}
+use Rattle.kept_read.proofs.machines.Statement.{statement}
+use Rattle.kept_read.proofs.machines.Tie as tie
+
+abbrev Inv-loop : tie.InvT-loop
+Inv-loop s out₀ i₀ out i = (length s ≡ 5171) × (i ≤ 16) × (out ≡ padTo 16 noMachine (listOf (λ k. machineFrom s (1986 + 7 * k)) i))
+
+abbrev μ-loop : tie.MeasureT-loop
+μ-loop s out₀ i₀ out i = 16 - i
+
+loop-holds : tie.Need-loop-holds Inv-loop μ-loop
+loop-holds c = (search tests, search tests, list-none _ 16 noMachine)
+
+mul-machine : tie.Need-mul-machine Inv-loop μ-loop
+mul-machine c = search tests
+
+add-machine : tie.Need-add-machine Inv-loop μ-loop
+add-machine c = search tests
+
+machine-requires : tie.Need-machine-requires Inv-loop μ-loop
+machine-requires c κs = search tests
+
+mul-out : tie.Need-mul-out Inv-loop μ-loop
+mul-out c = search tests
+
+array-set-from-out : tie.Need-array-set-from-out Inv-loop μ-loop
+array-set-from-out c = search tests
+
+add-i : tie.Need-add-i Inv-loop μ-loop
+add-i c = search tests
+
+loop-less : tie.Need-loop-less Inv-loop μ-loop
+loop-less c = search tests
+
+loop-again : tie.Need-loop-again Inv-loop μ-loop
+loop-again c =
+    let l = c .before .before in
+    let s = l .before .before .args .s .now in (
+      l .loop .inv .0,
+      search tests,
+      ap (λ (x : Machine). set (l .loop .out) (l .loop .i) x) (c .machine .ensures)
+          ∙ list-more (λ k. machineFrom s (1986 + 7 * k)) 16 noMachine (l .loop .i) (l .loop .out) (search tests) (l .loop .inv .2),
+    )
+
+returns : tie.Need-returns Inv-loop μ-loop
+unfolding machinesFrom
+returns c = filled _ 16 noMachine (c .before .loop .i) (c .before .loop .out) (search tests) (search tests) (c .before .loop .inv .2)
+
+pub machines-spec : {M : Type 1} → statement M
+machines-spec =
+    tie.close
+    (tie.spec
+    Inv-loop
+    μ-loop
+    loop-holds
+    mul-machine
+    add-machine
+    machine-requires
+    mul-out
+    array-set-from-out
+    add-i
+    loop-less
+    loop-again
+    returns)

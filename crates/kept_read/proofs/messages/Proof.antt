@@ -1,0 +1,74 @@
+-- `kept_read::messages` meets its contract. The invariant of its loop: the first i elements are read. Assumes nothing.
+use Rattle.lists.proofs.Rules.{tests}
+use Prim.Native.Nat.{ℕ, _+_, _*_, _-_, _≤_}
+use mathlib.Core.Path.{_≡_, ap, _∙_}
+use lib.ListN.{length, set}
+use Rattle.lists.specs.Scan.{padTo, listOf}
+use Rattle.lists.proofs.Scans.{list-none, list-more}
+use Rattle.table.specs.Views.{noMessage}
+use Rattle.table.specs.declared.Message.{Message}
+use Rattle.kept_read.specs.Layout.{messageFrom, messagesFrom}
+use Rattle.kept_read.proofs.Filled.{filled}
+use Rattle.kept_read.proofs.messages.Statement.{statement}
+use Rattle.kept_read.proofs.messages.Tie as tie
+
+abbrev Inv-loop : tie.InvT-loop
+Inv-loop s out₀ i₀ out i = (length s ≡ 5171) × (i ≤ 128) × (out ≡ padTo 128 noMessage (listOf (λ k. messageFrom s (3379 + 14 * k)) i))
+
+abbrev μ-loop : tie.MeasureT-loop
+μ-loop s out₀ i₀ out i = 128 - i
+
+loop-holds : tie.Need-loop-holds Inv-loop μ-loop
+loop-holds c = (search tests, search tests, list-none _ 128 noMessage)
+
+mul-message : tie.Need-mul-message Inv-loop μ-loop
+mul-message c = search tests
+
+add-message : tie.Need-add-message Inv-loop μ-loop
+add-message c = search tests
+
+message-requires : tie.Need-message-requires Inv-loop μ-loop
+message-requires c κs = search tests
+
+mul-out : tie.Need-mul-out Inv-loop μ-loop
+mul-out c = search tests
+
+array-set-from-out : tie.Need-array-set-from-out Inv-loop μ-loop
+array-set-from-out c = search tests
+
+add-i : tie.Need-add-i Inv-loop μ-loop
+add-i c = search tests
+
+loop-less : tie.Need-loop-less Inv-loop μ-loop
+loop-less c = search tests
+
+loop-again : tie.Need-loop-again Inv-loop μ-loop
+loop-again c =
+    let l = c .before .before in
+    let s = l .before .before .args .s .now in (
+      l .loop .inv .0,
+      search tests,
+      ap (λ (x : Message). set (l .loop .out) (l .loop .i) x) (c .message .ensures)
+          ∙ list-more (λ k. messageFrom s (3379 + 14 * k)) 128 noMessage (l .loop .i) (l .loop .out) (search tests) (l .loop .inv .2),
+    )
+
+returns : tie.Need-returns Inv-loop μ-loop
+unfolding messagesFrom
+returns c = filled _ 128 noMessage (c .before .loop .i) (c .before .loop .out) (search tests) (search tests) (c .before .loop .inv .2)
+
+pub messages-spec : {M : Type 1} → statement M
+messages-spec =
+    tie.close
+    (tie.spec
+    Inv-loop
+    μ-loop
+    loop-holds
+    mul-message
+    add-message
+    message-requires
+    mul-out
+    array-set-from-out
+    add-i
+    loop-less
+    loop-again
+    returns)

@@ -1,0 +1,31 @@
+-- `kept_read::number` meets its contract: 0 / 0 is the NaN, and the test is the library's rule for the bits of a NaN. Assumes nothing.
+use mathlib.Core.Path.{_≡_, refl, sym, _∙_, subst}
+use mathlib.Core.Bool.{Bool, not}
+use borrow.Author.Tests.{lt-ltb, le-ltb}
+use lib.Dec.{T}
+use lib.Ieee.{nan, binary64, div, ofBits}
+use lib.Ieee.Bits.{nanBits-is, nanBits-above}
+use Rattle.kept_read.proofs.Filled.{is-nan}
+use borrow.Author.Needs.{needs}
+use Rattle.kept_read.proofs.number.Statement.{statement}
+use Rattle.kept_read.proofs.number.Tie as tie
+
+nought-over-nought : div binary64 (ofBits binary64 0) (ofBits binary64 0) ≡ nan
+unfolding div ofBits
+nought-over-nought = refl
+
+returns : tie.Need-returns
+returns c =
+    let b = c .before .args .bits in
+    nought-over-nought ∙ is-nan (ofBits binary64 b) (sym (nanBits-is binary64 b) ∙ nanBits-above binary64 b ∙ lt-ltb _ _ (c .if1 .taken))
+
+float-from-bits-result : tie.Need-float-from-bits-result
+float-from-bits-result c =
+    let b = c .before .args .bits in
+    subst (λ (t : Bool). T (not t)) (sym (nanBits-above binary64 b ∙ le-ltb _ _ (c .if1 .left))) tt
+
+returns-2 : tie.Need-returns-2
+returns-2 c = search needs
+
+pub number-spec : {M : Type 1} → statement M
+number-spec = tie.close (tie.spec returns float-from-bits-result returns-2)

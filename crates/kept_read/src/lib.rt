@@ -1,0 +1,238 @@
+// Reading a kept table: whether bytes are those of a table, and the table that they stand for. The layout is in specs/Layout.antt.
+ghost use mathlib.Core.Path.{_≡_};
+ghost use Prim.Native.Nat.{_+_, _≤_};
+ghost use lib.ListN.{length};
+ghost use lib.Ieee.{binary64, ofBits};
+ghost use Rattle.kept_read.specs.Layout.{bondFrom, jobFrom, machineFrom, messageFrom, bondsFrom, jobsFrom, machinesFrom, toldFrom, poolsFrom, messagesFrom, tableFrom, termsFormed, formed};
+use pricer::Bond;
+use pricer::Terms;
+use table::Job;
+use table::Machine;
+use table::Message;
+use table::Table;
+
+// ---- one element
+
+// The number of these bits. Those of a NaN are past those of infinity, whatever the sign, and stand for the one NaN, which 0 / 0 is.
+fn number(bits: u64) -> f64
+    ensures { λ r. ⌜ r ≡ ofBits binary64 bits ⌝ }
+{
+    if 0x7ff0_0000_0000_0000 < bits % 0x8000_0000_0000_0000 {
+        return 0.0 / 0.0;
+    }
+    f64::from_bits(bits)
+}
+
+fn bond(s: &[u8], at: usize) -> Bond
+    requires { ⌜ at + 18 ≤ length (now s) ⌝ }
+    ensures { λ r. ⌜ r ≡ bondFrom (now (s .entry)) at ⌝ }
+{
+    let periods = s[at + 1];
+    let ytm = number(endian::u64_at(s, at + 10));
+    if s[at] == 0 {
+        return Bond {
+            periods,
+            terms: Terms::Zero(ytm),
+        };
+    }
+    let coupon = number(endian::u64_at(s, at + 2));
+    Bond {
+        periods,
+        terms: Terms::Fixed(coupon, ytm),
+    }
+}
+
+fn job(s: &[u8], at: usize) -> Job
+    requires { ⌜ at + 13 ≤ length (now s) ⌝ }
+    ensures { λ r. ⌜ r ≡ jobFrom (now (s .entry)) at ⌝ }
+{
+    let price = endian::u64_at(s, at + 5);
+    Job {
+        state: s[at],
+        replica: s[at + 1],
+        moving: s[at + 2],
+        holder: s[at + 3],
+        thief: s[at + 4],
+        price,
+    }
+}
+
+fn machine(s: &[u8], at: usize) -> Machine
+    requires { ⌜ at + 7 ≤ length (now s) ⌝ }
+    ensures { λ r. ⌜ r ≡ machineFrom (now (s .entry)) at ⌝ }
+{
+    Machine {
+        alive: s[at],
+        reserved_job: s[at + 1],
+        reserved_replica: s[at + 2],
+        reserved_thief: s[at + 3],
+        running_job: s[at + 4],
+        running_replica: s[at + 5],
+        waits: s[at + 6],
+    }
+}
+
+fn message(s: &[u8], at: usize) -> Message
+    requires { ⌜ at + 14 ≤ length (now s) ⌝ }
+    ensures { λ r. ⌜ r ≡ messageFrom (now (s .entry)) at ⌝ }
+{
+    let price = endian::u64_at(s, at + 6);
+    Message {
+        kind: s[at],
+        from: s[at + 1],
+        to: s[at + 2],
+        job: s[at + 3],
+        replica: s[at + 4],
+        thief: s[at + 5],
+        price,
+    }
+}
+
+// ---- the arrays
+
+fn bonds(s: &[u8]) -> [Bond; 64]
+    requires { ⌜ length (now s) ≡ 5171 ⌝ }
+    ensures { λ r. ⌜ r ≡ bondsFrom (now (s .entry)) ⌝ }
+{
+    let mut out = [Bond {
+        periods: 0,
+        terms: Terms::Zero(0.0),
+    }; 64];
+    let mut i: usize = 0;
+    while i < 64 {
+        out[i] = bond(s, 2 + 18 * i);
+        i += 1;
+    }
+    out
+}
+
+fn jobs(s: &[u8]) -> [Job; 64]
+    requires { ⌜ length (now s) ≡ 5171 ⌝ }
+    ensures { λ r. ⌜ r ≡ jobsFrom (now (s .entry)) ⌝ }
+{
+    let mut out = [Job {
+        state: 0,
+        replica: 0,
+        moving: 0,
+        holder: 0,
+        thief: 0,
+        price: 0,
+    }; 64];
+    let mut i: usize = 0;
+    while i < 64 {
+        out[i] = job(s, 1154 + 13 * i);
+        i += 1;
+    }
+    out
+}
+
+fn machines(s: &[u8]) -> [Machine; 16]
+    requires { ⌜ length (now s) ≡ 5171 ⌝ }
+    ensures { λ r. ⌜ r ≡ machinesFrom (now (s .entry)) ⌝ }
+{
+    let mut out = [Machine {
+        alive: 0,
+        reserved_job: 0,
+        reserved_replica: 0,
+        reserved_thief: 0,
+        running_job: 0,
+        running_replica: 0,
+        waits: 0,
+    }; 16];
+    let mut i: usize = 0;
+    while i < 16 {
+        out[i] = machine(s, 1986 + 7 * i);
+        i += 1;
+    }
+    out
+}
+
+fn told(s: &[u8]) -> [u8; 256]
+    requires { ⌜ length (now s) ≡ 5171 ⌝ }
+    ensures { λ r. ⌜ r ≡ toldFrom (now (s .entry)) ⌝ }
+{
+    let mut out = [0; 256];
+    let mut i: usize = 0;
+    while i < 256 {
+        out[i] = s[2098 + i];
+        i += 1;
+    }
+    out
+}
+
+fn pools(s: &[u8]) -> [u8; 1024]
+    requires { ⌜ length (now s) ≡ 5171 ⌝ }
+    ensures { λ r. ⌜ r ≡ poolsFrom (now (s .entry)) ⌝ }
+{
+    let mut out = [0; 1024];
+    let mut i: usize = 0;
+    while i < 1024 {
+        out[i] = s[2354 + i];
+        i += 1;
+    }
+    out
+}
+
+fn messages(s: &[u8]) -> [Message; 128]
+    requires { ⌜ length (now s) ≡ 5171 ⌝ }
+    ensures { λ r. ⌜ r ≡ messagesFrom (now (s .entry)) ⌝ }
+{
+    let mut out = [table::NO_MESSAGE; 128];
+    let mut i: usize = 0;
+    while i < 128 {
+        out[i] = message(s, 3379 + 14 * i);
+        i += 1;
+    }
+    out
+}
+
+// ---- the whole
+
+// The table of 5171 bytes.
+pub fn read(s: &[u8]) -> Table
+    requires { ⌜ length (now s) ≡ 5171 ⌝ }
+    ensures { λ r. ⌜ r ≡ tableFrom (now (s .entry)) ⌝ }
+{
+    let bonds = bonds(s);
+    let jobs = jobs(s);
+    let nodes = machines(s);
+    let told = told(s);
+    let pools = pools(s);
+    let messages = messages(s);
+    Table {
+        machines: s[0],
+        entries: s[1],
+        bonds,
+        jobs,
+        nodes,
+        told,
+        pools,
+        in_flight: s[3378],
+        messages,
+    }
+}
+
+// Whether the terms at an index are those of one of the two cases.
+fn terms_formed(s: &[u8], at: usize) -> bool
+    requires { ⌜ at + 18 ≤ length (now s) ⌝ }
+    ensures { λ r. ⌜ r ≡ termsFormed (now (s .entry)) at ⌝ }
+{
+    (s[at] == 0) & (endian::u64_at(s, at + 2) == 0) | (s[at] == 1)
+}
+
+// Whether the bytes are those of a table.
+pub fn formed(s: &[u8]) -> bool
+    ensures { λ r. ⌜ r ≡ formed (now (s .entry)) ⌝ }
+{
+    if s.len() != 5171 {
+        return false;
+    }
+    let mut i: usize = 0;
+    while i < 64 {
+        if !terms_formed(s, 2 + 18 * i) {
+            return false;
+        }
+        i += 1;
+    }
+    true
+}

@@ -1,0 +1,28 @@
+-- `kept_write::put_message` meets its contract. Assumes nothing.
+use native.Mathlib.Omega.{arith}
+use Rattle.text.proofs.Over.{then}
+use Rattle.kept_write.specs.Bytes.{messageBytes}
+use Rattle.kept_write.proofs.Lengths.{length-message}
+use borrow.Author.Needs.{needs}
+use Rattle.kept_write.proofs.put_message.Statement.{statement}
+use Rattle.kept_write.proofs.put_message.Tie as tie
+
+slice-aggregate-put : tie.Need-slice-aggregate-put
+slice-aggregate-put c = search needs
+
+put-requires : tie.Need-put-requires
+put-requires c κs = search needs
+
+put-u64-requires : tie.Need-put-u64-requires
+put-u64-requires c κs = search needs
+
+same-length : tie.Need-same-length
+same-length c = search needs
+
+returns : tie.Need-returns
+unfolding messageBytes
+returns c = then (c .before .before .before .before .before .before .put .ensures) (c .before .before .put-u64 .ensures) (omega (arith, length-message (c .before .before .before .before .before .before .before .before .before .before .args .m)))
+
+pub put-message-spec : {M : Type 1} → statement M
+put-message-spec =
+    tie.close (tie.spec slice-aggregate-put put-requires put-u64-requires same-length returns)

@@ -1,0 +1,13 @@
+-- `rakhvide_c::rakhvide_book` meets its contract: a book's number, as the crate below answers it. Assumes nothing.
+use borrow.Author.Needs.{needs}
+use Rattle.rakhvide_c.proofs.rakhvide_book.Statement.{statement}
+use Rattle.rakhvide_c.proofs.rakhvide_book.Tie as tie
+
+verdict-requires : tie.Need-verdict-requires
+verdict-requires c κs = search needs
+
+returns : tie.Need-returns
+returns c = cc
+
+pub rakhvide-book-spec : {M : Type 1} → statement M
+rakhvide-book-spec = tie.close (tie.spec verdict-requires returns)

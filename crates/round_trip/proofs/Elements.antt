@@ -1,0 +1,95 @@
+-- One element that is written and read again is the same element. Assumes nothing.
+use Prim.Native.Nat.{ℕ, _+_, _<_}
+use mathlib.Core.Path.{_≡_, refl, sym, ap, _∙_}
+use mathlib.Core.Bool.{true, false, not}
+use mathlib.Core.List.{List, [], _∷_, _++_}
+use native.Mathlib.Omega.{arith}
+use borrow.Author.Tests.{eq-eqb, ne-eqb}
+use lib.Dec.{T, eqb}
+use lib.Ieee.{Float, binary64, fits, ofBits, toBits}
+use lib.Ieee.Bits.{ofBits-toBits}
+use lib.ListN.{length, getD}
+use Rattle.endian.specs.Endian.{le64}
+use Rattle.pricer.specs.declared.Bond.{Bond}
+use Rattle.pricer.specs.declared.Terms.{Terms}
+use Rattle.pricer.specs.declared.Terms.the-variants.{Zero, Fixed}
+use Rattle.table.specs.declared.Job.{Job}
+use Rattle.table.specs.declared.Machine.{Machine}
+use Rattle.table.specs.declared.Message.{Message}
+use Rattle.kept_read.specs.Layout.{bondFrom, jobFrom, machineFrom, messageFrom, termsFormed}
+use Rattle.kept_write.specs.Bytes.{bytes64, termsBytes, casesBytes, bondBytes, jobBytes, machineBytes, messageBytes}
+use Rattle.kept_write.proofs.Lengths.{length-64}
+use Rattle.round_trip.proofs.Starts.{Starts, front, behind, byte, first, number64}
+
+-- each rate is a number of binary64, as every f64 of a program is
+abbrev pub RatesFit : Terms → Type 0
+RatesFit (Zero y) = T (fits binary64 y)
+RatesFit (Fixed c y) = T (fits binary64 c) × T (fits binary64 y)
+
+module _ (s : List ℕ) (at : ℕ) where
+  pub job-again : (v : Job) → Starts s at (jobBytes v) → jobFrom s at ≡ v
+  unfolding jobBytes jobFrom
+  job-again v h =
+      let x : List ℕ = v .state ∷ v .replica ∷ v .moving ∷ v .holder ∷ v .thief ∷ [] in
+      let a : Starts s at x = front x (bytes64 (v .price)) h in
+      let b : Starts s (at + 5) (bytes64 (v .price)) = behind x (bytes64 (v .price)) h in
+      rw (first (v .state) _ a, byte x a 1 (omega arith), byte x a 2 (omega arith), byte x a 3 (omega arith), byte x a 4 (omega arith), number64 s (at + 5) (v .price) b)
+
+  pub machine-again : (n : Machine) → Starts s at (machineBytes n) → machineFrom s at ≡ n
+  unfolding machineBytes machineFrom
+  machine-again n h =
+      let x : List ℕ = machineBytes n in
+      rw (first (n .alive) _ h, byte x h 1 (omega arith), byte x h 2 (omega arith), byte x h 3 (omega arith), byte x h 4 (omega arith), byte x h 5 (omega arith), byte x h 6 (omega arith))
+
+  pub message-again : (m : Message) → Starts s at (messageBytes m) → messageFrom s at ≡ m
+  unfolding messageBytes messageFrom
+  message-again m h =
+      let x : List ℕ = m .kind ∷ m .from ∷ m .to ∷ m .job ∷ m .replica ∷ m .thief ∷ [] in
+      let a : Starts s at x = front x (bytes64 (m .price)) h in
+      let b : Starts s (at + 6) (bytes64 (m .price)) = behind x (bytes64 (m .price)) h in
+      rw (first (m .kind) _ a, byte x a 1 (omega arith), byte x a 2 (omega arith), byte x a 3 (omega arith), byte x a 4 (omega arith), byte x a 5 (omega arith), number64 s (at + 6) (m .price) b)
+
+  -- the four parts of an entry's terms
+  record Parts (variant periods coupon ytm : ℕ) : Type 0 where
+    variant-is : getD s at 0 ≡ variant
+    periods-is : getD s (at + 1) 0 ≡ periods
+    coupon-is : le64 s (at + 2) ≡ coupon
+    ytm-is : le64 s (at + 10) ≡ ytm
+
+  parts : (v n c y : ℕ) → Starts s at (termsBytes v n c y) → Parts v n c y
+  unfolding termsBytes
+  parts v n c y h =
+      let x : List ℕ = v ∷ n ∷ [] in
+      let xs : List ℕ = x ++ bytes64 c in
+      let f : Starts s at xs = front xs (bytes64 y) h in
+      let e : at + length xs ≡ at + 10 = omega (arith, length-64 c) in
+      record {
+        variant-is = first v _ (front x (bytes64 c) f);
+        periods-is = byte x (front x (bytes64 c) f) 1 (omega arith);
+        coupon-is = number64 s (at + 2) c (behind x (bytes64 c) f);
+        ytm-is = ap (le64 s) (sym e) ∙ number64 s (at + length xs) y (behind xs (bytes64 y) h);
+      }
+
+  -- the terms by their case
+  module _ (n : ℕ) where
+    cases-again : (t : Terms) → RatesFit t → Starts s at (casesBytes n t) → bondFrom s at ≡ record { periods = n; terms = t }
+    unfolding bondFrom
+    cases-again (Zero y) f h =
+        let p = parts 0 n 0 (toBits binary64 y) h in
+        rw (eq-eqb _ _ (p .variant-is), p .periods-is, p .ytm-is, ofBits-toBits binary64 y f)
+    cases-again (Fixed c y) f h =
+        let p = parts 1 n (toBits binary64 c) (toBits binary64 y) h in
+        rw (p .variant-is, p .periods-is, p .coupon-is, p .ytm-is, ofBits-toBits binary64 c (f .0), ofBits-toBits binary64 y (f .1))
+
+    cases-formed : (t : Terms) → Starts s at (casesBytes n t) → termsFormed s at ≡ true
+    unfolding termsFormed
+    cases-formed (Zero y) h = let p = parts 0 n 0 (toBits binary64 y) h in rw (p .variant-is, p .coupon-is)
+    cases-formed (Fixed c y) h = let p = parts 1 n (toBits binary64 c) (toBits binary64 y) h in rw (p .variant-is)
+
+  pub bond-again : (b : Bond) → RatesFit (b .terms) → Starts s at (bondBytes b) → bondFrom s at ≡ b
+  unfolding bondBytes
+  bond-again b f h = cases-again (b .periods) (b .terms) f h
+
+  pub bond-formed : (b : Bond) → Starts s at (bondBytes b) → termsFormed s at ≡ true
+  unfolding bondBytes
+  bond-formed b h = cases-formed (b .periods) (b .terms) h

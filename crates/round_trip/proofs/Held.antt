@@ -1,0 +1,142 @@
+-- Which tables are held: that of any bytes, the fresh table of a book, and after an event what was held before it. Assumes nothing.
+use Prim.Native.Nat.{ℕ, _+_, _*_, _<_}
+use mathlib.Core.Path.{_≡_, refl, sym, ap, _∙_, subst}
+use mathlib.Core.Bool.{Bool, true, false, not, cond}
+use mathlib.Core.List.{List}
+use native.Mathlib.Omega.{arith}
+use lib.Dec.{T, eqb, ltb}
+use lib.IntN.{pos}
+use lib.Ieee.{Float, fin, binary64, fits, ofBits}
+use lib.Ieee.Bits.{ofBits-fits}
+use lib.ListN.{length, getD}
+use Rattle.lists.specs.Scan.{padTo, listOf}
+use Rattle.lists.proofs.Cases.{byBool}
+use Rattle.lists.proofs.Scans.{length-list, length-pad, list-at}
+use Rattle.endian.specs.Endian.{le64}
+use Rattle.pricer.specs.declared.Bond.{Bond}
+use Rattle.pricer.specs.declared.Terms.{Terms}
+use Rattle.pricer.specs.declared.Terms.the-variants.{Zero, Fixed}
+use Rattle.pricer.specs.Range.{inRange}
+use Rattle.term.specs.Term.{of, checked, termFrom, termOf}
+use Rattle.term.specs.declared.Reading.{Reading}
+use Rattle.term.specs.declared.Reading.the-variants.{Faulty, Valid}
+use Rattle.book.specs.Book.{termAt}
+use Rattle.book.specs.Parts.{entryCount, noBond, bondIn, bondAt, bondOf}
+use Rattle.table.specs.declared.Table.{Table}
+use Rattle.table.specs.Views.{noJob, noMachine, noMessage, pastBond, withJob, withNode, withPool, withTold, withMessages}
+use Rattle.table.specs.Views as views
+use Rattle.table.proofs.Long.{Long}
+use Rattle.validity.specs.Validity.{tableOk}
+use Rattle.opening.specs.Opening.{blank, bondsOf, freshOf}
+use Rattle.opening.proofs.Counts.{entries-most}
+use Rattle.opening.proofs.Shown.{sized-fresh, bond-fresh}
+use Rattle.dispatcher.specs.Step.{stepOf}
+use Rattle.dispatcher.proofs.Kept.{step-sized}
+use Rattle.run.proofs.Events.{passed-sized}
+use Rattle.invariant.proofs.Fixed.{Fixed as Unwritten, fixed-step}
+use Rattle.kept_read.specs.Layout.{bondFrom, jobFrom, machineFrom, messageFrom, bondsFrom, jobsFrom, machinesFrom, toldFrom, poolsFrom, messagesFrom, tableFrom}
+use Rattle.round_trip.proofs.Elements.{RatesFit}
+use Rattle.round_trip.proofs.Table.{Held}
+
+-- ---- the table of any bytes
+
+rates-read : (s : List ℕ) (at : ℕ) → RatesFit (bondFrom s at .terms)
+unfolding bondFrom
+rates-read s at =
+    byBool (eqb (getD s at 0) 0)
+    (λ e. rw e (ofBits-fits binary64 (le64 s (at + 10))))
+    (λ e. rw e (ofBits-fits binary64 (le64 s (at + 2)), ofBits-fits binary64 (le64 s (at + 10))))
+
+long-from : (s : List ℕ) → Long (tableFrom s)
+unfolding tableFrom bondsFrom jobsFrom machinesFrom toldFrom poolsFrom messagesFrom
+long-from s = record {
+  bonds = length-list (λ i. bondFrom s (2 + 18 * i)) 64 pastBond 64;
+  jobs = length-list (λ i. jobFrom s (1154 + 13 * i)) 64 noJob 64;
+  nodes = length-list (λ i. machineFrom s (1986 + 7 * i)) 16 noMachine 16;
+  told = length-list (λ i. getD s (2098 + i) 0) 256 0 256;
+  pools = length-list (λ i. getD s (2354 + i) 0) 1024 0 1024;
+  messages = length-list (λ i. messageFrom s (3379 + 14 * i)) 128 noMessage 128;
+}
+
+rates-from : (s : List ℕ) (j : ℕ) → j < 64 → RatesFit (getD (tableFrom s .bonds) j pastBond .terms)
+unfolding tableFrom bondsFrom
+rates-from s j k = rw (list-at (λ i. bondFrom s (2 + 18 * i)) 64 pastBond 64 j pastBond k) (rates-read s (2 + 18 * j))
+
+pub held-from : (s : List ℕ) → Held (tableFrom s)
+held-from s = record { long = long-from s; rates = rates-from s }
+
+-- ---- the fresh table of a book
+
+rates-none : RatesFit (noBond .terms)
+unfolding fits
+rates-none = tt
+
+abbrev Fit : Reading → Type 0
+Fit r = RatesFit (bondIn r .terms)
+
+either : (b : Bool) (x y : Reading) → Fit x → Fit y → Fit (cond b x y)
+either true x y p q = p
+either false x y p q = q
+
+rates-checked : (b : Bond) → RatesFit (b .terms) → Fit (checked b)
+unfolding checked
+rates-checked b f = either (inRange b) (Valid b) Faulty f rates-none
+
+rates-term : (k n c y : ℕ) → Fit (termFrom k n c y)
+unfolding termFrom
+rates-term k n c y =
+    either (eqb k 1) _ _
+    (either (eqb c 0) _ Faulty (rates-checked (record { periods = n; terms = Zero (of y) }) (ofBits-fits binary64 y)) rates-none)
+    (either (eqb k 2) _ Faulty (rates-checked (record { periods = n; terms = Fixed (of c) (of y) }) (ofBits-fits binary64 c, ofBits-fits binary64 y)) rates-none)
+
+rates-of : (s : List ℕ) → Fit (termOf s)
+unfolding termOf
+rates-of s = either (eqb (length s) 19) _ Faulty (either (eqb (getD s 2 0) 0) _ Faulty (rates-term (getD s 0 0) (getD s 1 0) (le64 s 3) (le64 s 11)) rates-none) rates-none
+
+rates-book : (s : List ℕ) (i : ℕ) → RatesFit (bondOf s i .terms)
+unfolding bondOf bondAt
+rates-book s i = byBool (ltb i (entryCount s)) (λ e. rw e (rates-of (termAt s (entryCount s) i))) (λ e. rw e rates-none)
+
+bonds-long : (s : List ℕ) → length (freshOf s .bonds) ≡ 64
+unfolding freshOf blank bondsOf
+bonds-long s =
+    let n = entryCount s in
+    length-pad 64 noBond (listOf (bondOf s) n) (omega (arith, length-list (bondOf s) 64 noBond n, entries-most s))
+
+shown-fresh : (s : List ℕ) (j : ℕ) → j < 64 → getD (freshOf s .bonds) j pastBond ≡ bondOf s j
+unfolding views.bondAt
+shown-fresh s j k = bond-fresh s j k
+
+rates-fresh : (s : List ℕ) (j : ℕ) → j < 64 → RatesFit (getD (freshOf s .bonds) j pastBond .terms)
+rates-fresh s j k = subst (λ (b : Bond). RatesFit (b .terms)) (sym (shown-fresh s j k)) (rates-book s j)
+
+pub held-fresh : (s : List ℕ) → Held (freshOf s)
+held-fresh s =
+    let z = sized-fresh s in
+    record {
+      long = record { bonds = bonds-long s; jobs = z .jobs; nodes = z .nodes; told = z .told; pools = z .pools; messages = z .messages };
+      rates = rates-fresh s;
+    }
+
+-- ---- after an event
+
+-- no event writes the terms
+fixed-bonds : Unwritten (λ t. t .bonds)
+unfolding withJob withNode withPool withTold withMessages
+fixed-bonds = record { job = λ t j v. refl; node = λ t m v. refl; pool = λ t m j r. refl; told = λ t m d r. refl; messages = λ t n l. refl }
+
+module _ (t : Table) (e : List ℕ) (h : Held t) where
+  same-bonds : stepOf t e .table .bonds ≡ t .bonds
+  same-bonds = fixed-step (λ u. u .bonds) fixed-bonds t e
+
+  passed : tableOk t ≡ true → Held (stepOf t e .table)
+  passed k =
+      let z = step-sized t e (passed-sized t (h .long) k) in
+      record {
+        long = record { bonds = ap length same-bonds ∙ h .long .bonds; jobs = z .jobs; nodes = z .nodes; told = z .told; pools = z .pools; messages = z .messages };
+        rates = λ j l. rw same-bonds (h .rates j l);
+      }
+
+  pub held-step : Held (stepOf t e .table)
+  unfolding stepOf
+  held-step = byBool (tableOk t) passed (λ k. rw (k, stepOf) h)

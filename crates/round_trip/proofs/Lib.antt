@@ -1,0 +1,5 @@
+pub mod Starts
+pub mod Elements
+pub mod Table
+pub mod Held
+pub mod Kept

@@ -1,0 +1,70 @@
+/* Document 01's listing through the C interface: opens the book, gives the kept table one event after another, and prints what is refused,
+ * then the page of the same book and events in one call. Exit status 1 where something is not as the listing says. */
+#include <stdio.h>
+#include <string.h>
+
+#include "rakhvide.h"
+
+static const uint8_t BOOK[4 + 2 * 31] = {
+    2, 0, 2, 0,
+    'Z', 'Z', '0', '0', '0', '0', '0', '0', '0', '0', '1', '6',
+    'Z', 'Z', '0', '0', '0', '0', '0', '0', '0', '0', '2', '4',
+    /* fixed, 2 periods, coupon 4, yield 0 */
+    2, 2, 0, 0, 0, 0, 0, 0, 0, 0x10, 0x40, 0, 0, 0, 0, 0, 0, 0, 0,
+    /* zero, 2 periods, yield 0.5 */
+    1, 2, 0, 0, 0, 0, 0, 0, 0, 0, 0, 0, 0, 0, 0, 0, 0, 0xe0, 0x3f,
+};
+
+static const uint8_t EVENTS[11][3] = {
+    {1, 0, 0}, {2, 1, 0}, {3, 1, 0}, {3, 0, 0}, {3, 0, 0}, {3, 0, 1}, {4, 1, 0}, {5, 1, 0}, {3, 1, 0}, {3, 1, 0}, {6, 0, 0},
+};
+
+static const char PAGE[] =
+    "event 11 refused 20\n"
+    "ZZ0000000016 priced 405A000000000000 replica 1\n"
+    "ZZ0000000024 not admitted\n";
+
+static uint8_t table[RAKHVIDE_TABLE];
+static uint8_t page[RAKHVIDE_PAGE];
+
+static int one_event_after_another(void)
+{
+    if (rakhvide_open(BOOK, sizeof BOOK, table, sizeof table) != 0)
+        return 1;
+    for (size_t i = 0; i < 11; i++) {
+        uint8_t number = rakhvide_step(table, sizeof table, EVENTS[i], 3);
+        if (number != 0)
+            printf("event %zu refused %u\n", i + 1, number);
+        if (number != (i == 10 ? 20 : 0) || rakhvide_check(table, sizeof table) != 0)
+            return 1;
+    }
+    return 0;
+}
+
+static int whole_page(void)
+{
+    size_t written;
+    if (!rakhvide_page(BOOK, sizeof BOOK, EVENTS[0], sizeof EVENTS, page, sizeof page, &written))
+        return 1;
+    fwrite(page, 1, written, stdout);
+    return written != strlen(PAGE) || memcmp(page, PAGE, written) != 0;
+}
+
+static int one_price(void)
+{
+    /* coupon 4, yield 0, 2 periods: 104 */
+    uint64_t bits = rakhvide_price_fixed(2, 4.0, 0.0);
+    double price;
+    memcpy(&price, &bits, sizeof price);
+    printf("coupon 4, yield 0, 2 periods: %g\n", price);
+    return price != 104.0;
+}
+
+int main(void)
+{
+    int faults = one_event_after_another() + whole_page() + one_price();
+    faults += rakhvide_identifier((const uint8_t *)"US0378331005", 12) != 0;
+    faults += rakhvide_identifier((const uint8_t *)"ZZ0000000017", 12) != 5;
+    faults += rakhvide_book(BOOK, sizeof BOOK - 1) != 3;
+    return faults != 0;
+}

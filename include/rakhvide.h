@@ -1,0 +1,60 @@
+/* Rakhvide's functions for programs in C, and for any language that calls C: the static library that `rt staticlib rakhvide_c` writes.
+ *
+ * What each function answers is proved for every content of its buffers (crates/rakhvide_c). What is left to the caller, and cannot be proved here:
+ *   - a pointer is not null, also where its length is 0, and the bytes from it to its length are there;
+ *   - a buffer that is written (no `const`) overlaps no other argument;
+ *   - no other thread writes to a buffer during the call.
+ * No function keeps a pointer, allocates, or has state of its own: calls on different buffers may run side by side.
+ * The numbers are those of document 01; 0 is accepted. A refusal leaves every buffer as it was. */
+#ifndef RAKHVIDE_H
+#define RAKHVIDE_H
+
+#include <stdbool.h>
+#include <stddef.h>
+#include <stdint.h>
+
+#ifdef __cplusplus
+extern "C" {
+#endif
+
+/* No page is longer: the length that rakhvide_page asks of its buffer. */
+#define RAKHVIDE_PAGE 463072
+
+/* The length of a kept table. */
+#define RAKHVIDE_TABLE 5171
+
+/* An identifier by ISO 6166: 0, or 4 for its form (another length than 12 too), or 5 for its check digit. */
+uint8_t rakhvide_identifier(const uint8_t *identifier, size_t length);
+
+/* A book: 0, or the number of its refusal, 1 to 7. */
+uint8_t rakhvide_book(const uint8_t *book, size_t length);
+
+/* A term of the book, 19 bytes: 0, and *bits are the 64 bits of its bond's price; or 7, and *bits stay. */
+uint8_t rakhvide_term(const uint8_t *term, size_t length, uint64_t *bits);
+
+/* The 64 bits of a price, of any arguments: half-years, annual coupon per 100 of face, annual yield as a fraction.
+ * A price that is a NaN, which no term of a book gives, has the bits 7FF8000000000000. */
+uint64_t rakhvide_price_zero(uint8_t periods, double yield);
+uint64_t rakhvide_price_fixed(uint8_t periods, double coupon, double yield);
+
+/* The page of a book and a list of events, three bytes each, of which at most 60,000 bytes count.
+ * true: the page is the first *written bytes of out, and the rest of out is as it was.
+ * false: out is shorter than RAKHVIDE_PAGE; it is as it was, and *written is 0. */
+bool rakhvide_page(const uint8_t *book, size_t book_length, const uint8_t *events, size_t events_length,
+                   uint8_t *out, size_t out_length, size_t *written);
+
+/* A kept table: RAKHVIDE_TABLE bytes that a program may store and read again; docs/LAYOUT.md says what each byte is.
+ * Opens the book: its number; 9 where the table's buffer has another length than RAKHVIDE_TABLE; or 0, and the fresh table is written. */
+uint8_t rakhvide_open(const uint8_t *book, size_t book_length, uint8_t *table, size_t table_length);
+
+/* Check 9 of bytes that may be anything: 0, or 9 where they are no table or a faulty one. */
+uint8_t rakhvide_check(const uint8_t *table, size_t table_length);
+
+/* One event, of which the first three bytes count, on bytes that may be anything: its number; the table changes exactly where it is 0. */
+uint8_t rakhvide_step(uint8_t *table, size_t table_length, const uint8_t *event, size_t event_length);
+
+#ifdef __cplusplus
+}
+#endif
+
+#endif
