@@ -201,25 +201,24 @@ impl Table {
     }
 }
 
-/// Takes bytes and little-endian words off the front of a kept table.
+/// Takes bytes and little-endian words off the front of a kept table, which is long enough for all.
 struct Reader<'a>(&'a [u8]);
 
 impl Reader<'_> {
-    fn byte(&mut self) -> u8 {
-        let byte = self.0[0];
-        self.0 = &self.0[1..];
-        byte
+    fn bytes<const N: usize>(&mut self) -> [u8; N] {
+        let (bytes, rest) = self.0.split_first_chunk().expect("a table's bytes");
+        self.0 = rest;
+        *bytes
     }
 
     fn word(&mut self) -> u64 {
-        let bytes: [u8; 8] = std::array::from_fn(|_| self.byte());
-        u64::from_le_bytes(bytes)
+        u64::from_le_bytes(self.bytes())
     }
 
     /// Case (0 zero-coupon, 1 fixed), periods, coupon, yield. None for another case, and for a zero-coupon
     /// entry with a coupon.
     fn bond(&mut self) -> Option<Bond> {
-        let (case, periods) = (self.byte(), self.byte());
+        let [case, periods] = self.bytes();
         let (coupon, ytm) = (f64::from_bits(self.word()), f64::from_bits(self.word()));
         let terms = match case {
             0 if coupon.to_bits() == 0 => Terms::Zero { ytm },
@@ -230,35 +229,19 @@ impl Reader<'_> {
     }
 
     fn job(&mut self) -> Job {
-        Job {
-            state: self.byte(),
-            replica: self.byte(),
-            moving: self.byte(),
-            holder: self.byte(),
-            thief: self.byte(),
-            price: self.word(),
-        }
+        let [state, replica, moving, holder, thief] = self.bytes();
+        Job { state, replica, moving, holder, thief, price: self.word() }
     }
 
     fn machine(&mut self) -> Machine {
-        Machine {
-            alive: self.byte(),
-            reserved: Held { job: self.byte(), replica: self.byte(), thief: self.byte() },
-            running: Held { job: self.byte(), replica: self.byte(), thief: 0 },
-            waits: self.byte(),
-        }
+        let [alive, job, replica, thief, running_job, running_replica, waits] = self.bytes();
+        let running = Held { job: running_job, replica: running_replica, thief: 0 };
+        Machine { alive, reserved: Held { job, replica, thief }, running, waits }
     }
 
     fn message(&mut self) -> Message {
-        Message {
-            kind: self.byte(),
-            from: self.byte(),
-            to: self.byte(),
-            job: self.byte(),
-            replica: self.byte(),
-            thief: self.byte(),
-            price: self.word(),
-        }
+        let [kind, from, to, job, replica, thief] = self.bytes();
+        Message { kind, from, to, job, replica, thief, price: self.word() }
     }
 }
 
@@ -308,7 +291,7 @@ impl Table {
             return None;
         }
         let mut from = Reader(bytes);
-        let (machines, entries) = (from.byte(), from.byte());
+        let [machines, entries] = from.bytes();
         let mut bonds = [Bond::NONE; ENTRIES];
         for bond in &mut bonds {
             *bond = from.bond()?;
@@ -319,9 +302,9 @@ impl Table {
             bonds,
             jobs: std::array::from_fn(|_| from.job()),
             machine: std::array::from_fn(|_| from.machine()),
-            told: std::array::from_fn(|_| std::array::from_fn(|_| from.byte())),
-            pools: std::array::from_fn(|_| std::array::from_fn(|_| from.byte())),
-            in_flight: from.byte(),
+            told: std::array::from_fn(|_| from.bytes()),
+            pools: std::array::from_fn(|_| from.bytes()),
+            in_flight: from.bytes::<1>()[0],
             messages: std::array::from_fn(|_| from.message()),
         })
     }

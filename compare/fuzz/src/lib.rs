@@ -56,6 +56,13 @@ fn same<T: PartialEq + Debug>(what: &str, library: T, second: T) {
     }
 }
 
+/// Two tables; the first byte that differs is named by its offset.
+fn same_table(what: &str, library: &[u8], second: &[u8]) {
+    if let Some(at) = (0..BYTES).find(|&at| library[at] != second[at]) {
+        same(&format!("{what}, byte {at}"), library[at], second[at]);
+    }
+}
+
 fn one_term(library: &mut Library, input: &[u8]) {
     let before = 0x0123_4567_89AB_CDEF;
     let second = book::term(input).map_or((7, before), |bond| (0, bond.price()));
@@ -100,7 +107,7 @@ fn one_run(library: &mut Library, input: &[u8]) {
     let mut bytes = vec![0; BYTES];
     same("open", library.open(book, &mut bytes), opened.as_ref().err().copied().unwrap_or(0));
     let Ok(table) = opened else { return };
-    same("table opened", &bytes[..], &table.to_bytes()[..]);
+    same_table("table opened", &bytes, &table.to_bytes());
     let mut kept = Kept { bytes, table: None };
     for _ in 0..MOST_STEPS {
         match *rest {
@@ -145,6 +152,6 @@ impl Kept {
             None => self.bytes.clone(),
         };
         same("number of an event", library.step(&mut self.bytes, event), number);
-        same("table after an event", &self.bytes, &second);
+        same_table("table after an event", &self.bytes, &second);
     }
 }
