@@ -20,8 +20,10 @@ use Rattle.table.specs.Parts.{accept}
 use Rattle.table.proofs.Views.{node-messages}
 use Rattle.elements.specs.Elements.{toldOk}
 use Rattle.validity.specs.Validity.{bound}
-use Rattle.events.specs.Events.{admitted, stolen, delivered, started, finished, died}
-use Rattle.events.specs.Notice.{noticed}
+use Rattle.events.specs.Events.{admitted, delivered, died}
+use Rattle.steal.specs.Steal.{stolen}
+use Rattle.work.specs.Work.{started, finished}
+use Rattle.notice.specs.Notice.{noticed}
 use Rattle.preservation.proofs.Facts.{told-dead}
 use Rattle.invariant.proofs.State.{Whole}
 use Rattle.invariant.proofs.Hand.{hand}

@@ -15,7 +15,10 @@ use Rattle.table.specs.Views.{jobAt, nodeAt, toldAt, messageAt, withJob}
 use Rattle.table.specs.Messages.{lowest, pull}
 use Rattle.table.specs.Parts.{moved, placed, priced, reserves, returned, OBSOLETE, DENIED, AUTH, RESULT}
 use Rattle.table.proofs.Views.{views, job-same, job-other, job-node}
-use Rattle.handlers.specs.Handlers.{noWork, grant, onFish, reply, onReq, onAuth, onDenied, onObsolete, onSchedule, onAck, onNoWork, onResult, handle}
+use Rattle.victim_handlers.specs.VictimHandlers.{noWork, grant, onFish, onAuth, onDenied, onObsolete}
+use Rattle.thief_handlers.specs.ThiefHandlers.{onSchedule, onNoWork}
+use Rattle.root_handlers.specs.RootHandlers.{reply, onReq, onAck, onResult}
+use Rattle.handlers.specs.Handlers.{handle}
 use Rattle.events.specs.Events.{delivered}
 use Rattle.invariant.proofs.State.{Known, Hand, Whole}
 use Rattle.invariant.proofs.Hand.{hand}

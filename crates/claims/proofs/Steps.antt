@@ -16,13 +16,15 @@ use Rattle.table.specs.Views.{jobAt, withJob}
 use Rattle.table.specs.Messages.{oldest}
 use Rattle.table.specs.Parts.{opened, accept, RESULT}
 use Rattle.table.proofs.Views.{views, job-same, job-other, job-node}
-use Rattle.events.specs.Events.{admitted, stolen, delivered, started, finished, died}
-use Rattle.events.specs.Notice.{lost, quieted, reissue, noticed}
+use Rattle.events.specs.Events.{admitted, delivered, died}
+use Rattle.steal.specs.Steal.{stolen}
+use Rattle.work.specs.Work.{started, finished}
+use Rattle.notice.specs.Notice.{lost, quieted, reissue, noticed}
 use Rattle.preservation.proofs.Sizes.{sized-quieted}
 use Rattle.invariant.proofs.State.{Whole}
 use Rattle.invariant.proofs.Frame.{job-enter}
 use Rattle.invariant.proofs.Died.{job-died}
-use Rattle.invariant.proofs.Quieted.{job-quieted}
+use Rattle.notice.proofs.Parts.{job-quieted}
 use Rattle.invariant.proofs.Reissued.{reissuedJob, job-reissue}
 use Rattle.dispatcher.specs.Step.{codeOf, firstOf, secondOf, stepOf}
 use Rattle.claims.specs.History.{admits, delivers, finds, takenOff}

@@ -13,7 +13,7 @@ use Rattle.table.specs.declared.Answer.{Answer}
 use Rattle.table.specs.Views.{jobAt, messageAt}
 use Rattle.table.specs.Messages.{oldest}
 use Rattle.table.specs.Parts.{RESULT}
-use Rattle.events.specs.Notice.{lost}
+use Rattle.notice.specs.Notice.{lost}
 use Rattle.dispatcher.specs.Step.{codeOf, firstOf, secondOf, stepOf}
 
 -- the numbers that the events are answered, in their order

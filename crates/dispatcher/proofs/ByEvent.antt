@@ -8,8 +8,10 @@ use Rattle.table.specs.declared.Table.{Table}
 use Rattle.table.specs.declared.Answer.{Answer}
 use Rattle.table.specs.Views.{jobAt, nodeAt, poolAt, toldAt}
 use Rattle.table.specs.Messages.{oldest}
-use Rattle.events.specs.Events.{admitted, stolen, delivered, started, finished, died}
-use Rattle.events.specs.Notice.{noticed}
+use Rattle.events.specs.Events.{admitted, delivered, died}
+use Rattle.steal.specs.Steal.{stolen}
+use Rattle.work.specs.Work.{started, finished}
+use Rattle.notice.specs.Notice.{noticed}
 use Rattle.dispatcher.proofs.Events.{by-cases}
 use Rattle.dispatcher.specs.Step.{firstOf, secondOf, stepOf, runOf}
 

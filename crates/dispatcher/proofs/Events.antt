@@ -17,8 +17,10 @@ use Rattle.table.specs.Views.{jobAt, nodeAt, poolAt, toldAt, refuse}
 use Rattle.table.specs.Messages.{oldest}
 use Rattle.table.specs.Parts.{lives, accept}
 use Rattle.validity.specs.Validity.{tableOk}
-use Rattle.events.specs.Events.{admitted, admitOf, stolen, stealOf, delivered, deliverOf, started, startOf, finished, doneOf, died, dieOf}
-use Rattle.events.specs.Notice.{noticed, noticeOf}
+use Rattle.events.specs.Events.{admitted, admitOf, delivered, deliverOf, died, dieOf}
+use Rattle.steal.specs.Steal.{stolen, stealOf}
+use Rattle.work.specs.Work.{started, startOf, finished, doneOf}
+use Rattle.notice.specs.Notice.{noticed, noticeOf}
 use Rattle.dispatcher.proofs.Numbers.{entry-in, start-in, machines-in}
 use Rattle.dispatcher.specs.Step.{codeOf, firstOf, secondOf, usesSecond, formed, numbered, eventOf, answerOf, stepOf}
 

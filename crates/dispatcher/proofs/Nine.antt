@@ -14,8 +14,10 @@ use Rattle.table.specs.Messages.{oldest}
 use Rattle.table.specs.Parts.{lives}
 use Rattle.table.proofs.Views.{Sized}
 use Rattle.validity.specs.Validity.{tableOk}
-use Rattle.events.specs.Events.{admitted, admitOf, stolen, stealOf, delivered, deliverOf, started, startOf, finished, doneOf, died, dieOf}
-use Rattle.events.specs.Notice.{noticed, noticeOf}
+use Rattle.events.specs.Events.{admitted, admitOf, delivered, deliverOf, died, dieOf}
+use Rattle.steal.specs.Steal.{stolen, stealOf}
+use Rattle.work.specs.Work.{started, startOf, finished, doneOf}
+use Rattle.notice.specs.Notice.{noticed, noticeOf}
 use Rattle.dispatcher.specs.Step.{codeOf, firstOf, secondOf, formed, numbered, eventOf, answerOf, stepOf, runOf}
 use Rattle.dispatcher.proofs.Kept.{run-answer}
 

@@ -12,8 +12,8 @@ use Rattle.table.proofs.Long.{Long, sized}
 use Rattle.table.proofs.Views.{Sized, length-flight}
 use Rattle.table.proofs.Messages.{message-flight}
 use Rattle.validity.specs.Validity.{tableOk}
-use Rattle.handlers.specs.Needs.{Within}
-use Rattle.events.specs.Needs.{Ready}
+use Rattle.messages.specs.Needs.{Within}
+use Rattle.messages.specs.Needs.{Ready}
 use Rattle.preservation.proofs.Ok.{tests, ok, used-most}
 use Rattle.preservation.proofs.Facts.{Facts, MessageFacts}
 use Rattle.preservation.proofs.Passed.{facts}

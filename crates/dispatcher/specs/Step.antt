@@ -8,8 +8,10 @@ use Rattle.table.specs.declared.Table.{Table}
 use Rattle.table.specs.declared.Answer.{Answer}
 use Rattle.table.specs.Views.{refuse}
 use Rattle.validity.specs.Validity.{tableOk}
-use Rattle.events.specs.Events.{admitOf, stealOf, deliverOf, startOf, doneOf, dieOf}
-use Rattle.events.specs.Notice.{noticeOf}
+use Rattle.events.specs.Events.{admitOf, deliverOf, dieOf}
+use Rattle.steal.specs.Steal.{stealOf}
+use Rattle.work.specs.Work.{startOf, doneOf}
+use Rattle.notice.specs.Notice.{noticeOf}
 
 -- "Events are three bytes: code, a, b."
 abbrev pub codeOf : List ℕ → ℕ

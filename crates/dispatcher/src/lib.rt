@@ -3,7 +3,7 @@ ghost use mathlib.Core.Path.{_≡_};
 ghost use mathlib.Core.Bool.{true, _&&_, _||_};
 ghost use lib.Dec.{eqb, leb};
 ghost use Rattle.validity.specs.Validity.{tableOk};
-ghost use Rattle.events.specs.Needs.{Ready};
+ghost use Rattle.messages.specs.Needs.{Ready};
 ghost use Rattle.dispatcher.specs.Step.{usesSecond, numbered, eventOf, answerOf, stepOf};
 use table::Answer;
 use table::Table;
@@ -38,21 +38,21 @@ fn event(t: Table, code: u8, a: u8, b: u8) -> Answer
         return events::admit(t, a);
     }
     if code == 2 {
-        return events::steal(t, a, b);
+        return steal::steal(t, a, b);
     }
     if code == 3 {
         return events::deliver(t, a, b);
     }
     if code == 4 {
-        return events::start(t, a, b);
+        return work::start(t, a, b);
     }
     if code == 5 {
-        return events::done(t, a);
+        return work::done(t, a);
     }
     if code == 6 {
         return events::die(t, a);
     }
-    events::notice::notice(t, a, b)
+    notice::notice(t, a, b)
 }
 
 // One event on a table that passes check 9, which is not tested again: for a run, whose every table passes.

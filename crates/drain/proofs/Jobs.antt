@@ -11,7 +11,7 @@ use Rattle.table.specs.declared.Table.{Table}
 use Rattle.table.specs.Views.{jobAt, nodeAt, poolAt, withPool}
 use Rattle.table.specs.Parts.{running, accept}
 use Rattle.table.proofs.Views.{Sized, views, sized-pool, node-same, node-other, node-pool}
-use Rattle.events.specs.Events.{started}
+use Rattle.work.specs.Work.{started}
 use Rattle.lists.proofs.Cases.{byEq}
 use Rattle.invariant.proofs.State.{Whole}
 use Rattle.invariant.proofs.Alive.{alive-started}

@@ -10,7 +10,7 @@ use Rattle.table.specs.declared.Machine.{Machine}
 use Rattle.table.specs.declared.Table.{Table}
 use Rattle.table.specs.Views.{nodeAt, toldAt}
 use Rattle.table.specs.Parts.{accept}
-use Rattle.events.specs.Notice.{quieted, noticed}
+use Rattle.notice.specs.Notice.{quieted, noticed}
 use Rattle.lists.proofs.Cases.{byBool, byEq}
 use Rattle.invariant.proofs.State.{Whole}
 use Rattle.invariant.proofs.Fixed.{fixed-noticed}

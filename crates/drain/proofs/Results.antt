@@ -19,8 +19,10 @@ use Rattle.table.specs.Messages.{push, pull, send}
 use Rattle.table.specs.Parts.{priced, running, result, accept, RESULT}
 use Rattle.table.proofs.Views.{Sized, views, sized-node, node-same, node-other, node-messages, told-messages, job-messages, job-same, job-other, length-flight}
 use Rattle.table.proofs.Messages.{flight-push, sized-pull, message-flight}
-use Rattle.handlers.specs.Handlers.{onResult, handle}
-use Rattle.events.specs.Events.{delivered, finished}
+use Rattle.root_handlers.specs.RootHandlers.{onResult}
+use Rattle.handlers.specs.Handlers.{handle}
+use Rattle.events.specs.Events.{delivered}
+use Rattle.work.specs.Work.{finished}
 use Rattle.lists.proofs.Cases.{byBool, byEq}
 use Rattle.preservation.proofs.Sizes.{used-pull}
 use Rattle.invariant.proofs.State.{Whole}

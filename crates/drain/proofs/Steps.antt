@@ -12,8 +12,9 @@ use Rattle.table.specs.declared.Table.{Table}
 use Rattle.table.specs.Views.{nodeAt, poolAt, toldAt, messageAt}
 use Rattle.table.specs.Messages.{chan, oldest}
 use Rattle.table.specs.Parts.{accept}
-use Rattle.events.specs.Events.{delivered, deliverOf, started, startOf, finished, doneOf}
-use Rattle.events.specs.Notice.{noticed, noticeOf}
+use Rattle.events.specs.Events.{delivered, deliverOf}
+use Rattle.work.specs.Work.{started, startOf, finished, doneOf}
+use Rattle.notice.specs.Notice.{noticed, noticeOf}
 use Rattle.lists.proofs.Scans.{least-none, least-found}
 use Rattle.preservation.proofs.Facts.{MessageFacts}
 use Rattle.preservation.proofs.Ok.{passes}

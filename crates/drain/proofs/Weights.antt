@@ -15,7 +15,10 @@ use Rattle.table.specs.Messages.{push, send, lowest}
 use Rattle.table.specs.Parts.{moved, placed, priced, reserve, release, waiting, reserves, returned, message, FISH, REQ, AUTH, DENIED, OBSOLETE, SCHEDULE, ACK, NOWORK, RESULT}
 use Rattle.table.proofs.Views.{views}
 use Rattle.table.proofs.Messages.{flight-push}
-use Rattle.handlers.specs.Handlers.{noWork, grant, onFish, reply, onReq, onAuth, onDenied, onObsolete, onSchedule, onAck, onNoWork, onResult, handle}
+use Rattle.victim_handlers.specs.VictimHandlers.{noWork, grant, onFish, onAuth, onDenied, onObsolete}
+use Rattle.thief_handlers.specs.ThiefHandlers.{onSchedule, onNoWork}
+use Rattle.root_handlers.specs.RootHandlers.{reply, onReq, onAck, onResult}
+use Rattle.handlers.specs.Handlers.{handle}
 use Rattle.lists.proofs.Cases.{byBool}
 use Rattle.invariant.proofs.State.{Hand}
 use Rattle.invariant.proofs.Frame.{Frame, frame-refl, frame-job, frame-pool, frame-node, frame-enter, frame-returned}

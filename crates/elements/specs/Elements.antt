@@ -1,8 +1,8 @@
--- Refusal 9, one element of the table at a time: which bond, job, machine, told flag, pool cell and message slot passes.
+-- Refusal 9, one element of the table at a time: which bond, job, machine, told flag and pool cell passes.
 -- Each test is on numbers and on the one element. Machines is the machine count, entries the entry count, b the largest replica number allowed.
--- The tests of whole arrays, and the list of document 01's conditions, are in the crate `validity`.
+-- Message slots are in the crate `slots`; the tests of whole arrays, and the list of document 01's conditions, are in the crate `validity`.
 use Prim.Native.Nat.{ℕ}
-use mathlib.Core.Bool.{Bool, true, false, cond, _&&_, _||_, not}
+use mathlib.Core.Bool.{Bool, false, cond, _&&_, _||_}
 use lib.Dec.{ltb, leb, eqb}
 use lib.Ieee.{binary64, toBits}
 use Rattle.pricer.specs.declared.Bond.{Bond}
@@ -10,9 +10,7 @@ use Rattle.pricer.specs.declared.Terms.{Terms}
 use Rattle.pricer.specs.declared.Terms.the-variants.{Zero, Fixed}
 use Rattle.pricer.specs.Range.{inRange}
 use Rattle.table.specs.declared.Job.{Job}
-use Rattle.table.specs.declared.Message.{Message}
 use Rattle.table.specs.declared.Machine.{Machine}
-use Rattle.table.specs.Parts.{FISH, REQ, OBSOLETE, ACK, RESULT}
 
 -- ---- a copy
 
@@ -83,44 +81,3 @@ toldOk machines alive m d x = eqb x 0 || eqb x 1 && ltb m machines && ltb d mach
 -- "a pool (per job a replica number, 0 for none)"; "a dead machine has an empty pool"
 abbrev pub cellOk : ℕ → ℕ → ℕ → ℕ → ℕ → Bool
 cellOk entries b alive j x = eqb x 0 || eqb alive 1 && copyOk entries b j x
-
--- ---- "up to 128 messages in flight"; the kinds are numbered FISH, REQ, AUTH, DENIED, OBSOLETE, SCHEDULE, ACK, NOWORK, RESULT from 1 to 9
-
--- "unused slots are all 0"
-abbrev pub emptyMessage : Message → Bool
-emptyMessage m = eqb (m .kind) 0 && eqb (m .from) 0 && eqb (m .to) 0 && eqb (m .job) 0 && eqb (m .replica) 0 && eqb (m .thief) 0 && eqb (m .price) 0
-
--- REQ, AUTH, DENIED, OBSOLETE, SCHEDULE, ACK and RESULT carry job and replica
-abbrev pub withCopy : ℕ → Bool
-withCopy k = leb REQ k && leb k ACK || eqb k RESULT
-
--- "REQ (job, replica, t)"; "AUTH, DENIED, OBSOLETE repeat job, replica and thief"
-abbrev pub withThief : ℕ → Bool
-withThief k = leb REQ k && leb k OBSOLETE
-
--- "a REQ, ACK or RESULT"
-abbrev pub toRoot : ℕ → Bool
-toRoot k = eqb k REQ || eqb k ACK || eqb k RESULT
-
--- a kind; "RESULT carries job, replica and price", and no other kind a price
-abbrev pub kindOk : Message → Bool
-kindOk m = leb FISH (m .kind) && leb (m .kind) RESULT && (eqb (m .kind) RESULT || eqb (m .price) 0)
-
--- machine numbers in their range, and the root where the kind goes "to the root"
-abbrev pub endsOk : ℕ → Message → Bool
-endsOk machines m = ltb (m .from) machines && ltb (m .to) machines && (not (toRoot (m .kind)) || eqb (m .to) 0)
-
--- a copy where the kind carries one, 0 where it does not
-abbrev pub carriesOk : ℕ → ℕ → Message → Bool
-carriesOk entries b m = withCopy (m .kind) && copyOk entries b (m .job) (m .replica) || not (withCopy (m .kind)) && (eqb (m .job) 0 && eqb (m .replica) 0)
-
--- a thief where the kind carries one, 0 where it does not
-abbrev pub thiefOk : ℕ → Message → Bool
-thiefOk machines m = withThief (m .kind) && ltb (m .thief) machines || not (withThief (m .kind)) && eqb (m .thief) 0
-
-abbrev pub messageOk : ℕ → ℕ → ℕ → Message → Bool
-messageOk machines entries b m = kindOk m && endsOk machines m && carriesOk entries b m && thiefOk machines m
-
--- slot i of which `used` are in use; alive is that of the receiver: "a message to a dead machine"
-abbrev pub slotOk : ℕ → ℕ → ℕ → ℕ → ℕ → ℕ → Message → Bool
-slotOk machines entries b used i alive m = cond (leb used i) (emptyMessage m) (eqb alive 1 && messageOk machines entries b m)

@@ -1,13 +1,14 @@
-// Refusal 9, one element of the table at a time. Each function is handed numbers and the one element, never the table.
+// Refusal 9, one element of the table at a time: bonds, jobs, machines, told flags, pool cells. Each function is handed numbers and the one element,
+// never the table. Message slots are the crate `slots`.
 ghost use mathlib.Core.Path.{_≡_};
-ghost use Rattle.elements.specs.Elements.{copyOk, noTerms, emptyBond, bondOk, emptyJob, admittedOk, placeOk, jobOk, emptyNode, reservedOk, runningOk, nodeOk, toldOk, cellOk, emptyMessage, withCopy, withThief, toRoot, kindOk, endsOk, carriesOk, thiefOk, messageOk, slotOk};
+ghost use Rattle.elements.specs.Elements.{copyOk, noTerms, emptyBond, bondOk, emptyJob, admittedOk, placeOk, jobOk, emptyNode, reservedOk, runningOk, nodeOk, toldOk, cellOk};
 use pricer::Bond;
 use pricer::Terms;
 use table::Job;
 use table::Machine;
-use table::Message;
 
-fn copy_ok(entries: u8, b: u8, job: u8, replica: u8) -> bool
+// A copy: a job number and a replica number in their ranges.
+pub fn copy_ok(entries: u8, b: u8, job: u8, replica: u8) -> bool
     ensures { λ r. ⌜ r ≡ copyOk entries b job replica ⌝ }
 {
     (job < entries) & (1 <= replica) & (replica <= b)
@@ -115,76 +116,4 @@ pub fn cell_ok(entries: u8, b: u8, alive: u8, j: u8, x: u8) -> bool
     ensures { λ r. ⌜ r ≡ cellOk entries b alive j x ⌝ }
 {
     (x == 0) | (alive == 1) & copy_ok(entries, b, j, x)
-}
-
-fn empty_message(m: Message) -> bool
-    ensures { λ r. ⌜ r ≡ emptyMessage m ⌝ }
-{
-    (m.kind == 0)
-        & (m.from == 0)
-        & (m.to == 0)
-        & (m.job == 0)
-        & (m.replica == 0)
-        & (m.thief == 0)
-        & (m.price == 0)
-}
-
-fn with_copy(k: u8) -> bool
-    ensures { λ r. ⌜ r ≡ withCopy k ⌝ }
-{
-    (2 <= k) & (k <= 7) | (k == 9)
-}
-
-fn with_thief(k: u8) -> bool
-    ensures { λ r. ⌜ r ≡ withThief k ⌝ }
-{
-    (2 <= k) & (k <= 5)
-}
-
-fn to_root(k: u8) -> bool
-    ensures { λ r. ⌜ r ≡ toRoot k ⌝ }
-{
-    (k == 2) | (k == 7) | (k == 9)
-}
-
-fn kind_ok(m: Message) -> bool
-    ensures { λ r. ⌜ r ≡ kindOk m ⌝ }
-{
-    (1 <= m.kind) & (m.kind <= 9) & ((m.kind == 9) | (m.price == 0))
-}
-
-fn ends_ok(machines: u8, m: Message) -> bool
-    ensures { λ r. ⌜ r ≡ endsOk machines m ⌝ }
-{
-    let w = to_root(m.kind);
-    (m.from < machines) & (m.to < machines) & (!w | (m.to == 0))
-}
-
-fn carries_ok(entries: u8, b: u8, m: Message) -> bool
-    ensures { λ r. ⌜ r ≡ carriesOk entries b m ⌝ }
-{
-    let w = with_copy(m.kind);
-    w & copy_ok(entries, b, m.job, m.replica) | !w & ((m.job == 0) & (m.replica == 0))
-}
-
-fn thief_ok(machines: u8, m: Message) -> bool
-    ensures { λ r. ⌜ r ≡ thiefOk machines m ⌝ }
-{
-    let w = with_thief(m.kind);
-    w & (m.thief < machines) | !w & (m.thief == 0)
-}
-
-fn message_ok(machines: u8, entries: u8, b: u8, m: Message) -> bool
-    ensures { λ r. ⌜ r ≡ messageOk machines entries b m ⌝ }
-{
-    kind_ok(m) & ends_ok(machines, m) & carries_ok(entries, b, m) & thief_ok(machines, m)
-}
-
-pub fn slot_ok(machines: u8, entries: u8, b: u8, used: u8, i: u8, alive: u8, m: Message) -> bool
-    ensures { λ r. ⌜ r ≡ slotOk machines entries b used i alive m ⌝ }
-{
-    if used <= i {
-        return empty_message(m);
-    }
-    (alive == 1) & message_ok(machines, entries, b, m)
 }

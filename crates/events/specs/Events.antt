@@ -1,14 +1,13 @@
--- Document 01, "The table", events 1 to 6, each with its own refusals in the order of "Where each refusal is checked". What the dispatcher has tested
--- before (9, 10, 11) is not tested again. Definitions only, all shut.
-use mathlib.Core.Bool.{not, cond, _||_}
-use Prim.Native.Nat.{ℕ, _+_}
+-- Document 01, "The table", events 1, 3 and 6, each with its own refusals in the order of "Where each refusal is checked". What the dispatcher has
+-- tested before (9, 10, 11) is not tested again. Definitions only, all shut.
+use mathlib.Core.Bool.{not, cond}
+use Prim.Native.Nat.{ℕ}
 use lib.Dec.{eqb, leb}
-use Rattle.pricer.specs.Price.{priceBits}
 use Rattle.table.specs.declared.Table.{Table}
 use Rattle.table.specs.declared.Answer.{Answer}
-use Rattle.table.specs.Views.{noMachine, bondAt, jobAt, nodeAt, poolAt, toldAt, messageAt, withJob, withNode, withPool, refuse, enter}
-use Rattle.table.specs.Messages.{send, oldest, pull, sift, notTo, wipe}
-use Rattle.table.specs.Parts.{opened, running, waiting, lives, message, result, FISH, accept}
+use Rattle.table.specs.Views.{noMachine, jobAt, messageAt, withJob, withNode, refuse, enter}
+use Rattle.table.specs.Messages.{oldest, pull, sift, notTo, wipe}
+use Rattle.table.specs.Parts.{opened, lives, accept}
 use Rattle.handlers.specs.Handlers.{handle}
 
 -- "1. Admit a: job a becomes open, replica 1, on 0, and enters the root's pool."
@@ -21,20 +20,6 @@ admitOf t a =
     cond (not (eqb (jobAt t a .state) 0)) (refuse 13 t)
     (accept (admitted t a))
 
--- "2. Steal a b: thief a sends FISH to b and waits on b."
-unfoldable pub stolen : Table → ℕ → ℕ → Table
-stolen t a b = send (withNode t a (waiting (nodeAt t a) (b + 1))) (message FISH a b 0 0 0)
-
--- 12 thief dead; 14 thief is victim, or waits already, or was told the victim is dead; 16 128 messages in flight
-unfoldable pub stealOf : Table → ℕ → ℕ → Answer
-stealOf t a b =
-    cond (not (lives t a)) (refuse 12 t)
-    (cond (eqb a b) (refuse 14 t)
-    (cond (not (eqb (nodeAt t a .waits) 0)) (refuse 14 t)
-    (cond (not (eqb (toldAt t a b) 0)) (refuse 14 t)
-    (cond (leb 128 (t .«in_flight»)) (refuse 16 t)
-    (accept (stolen t a b))))))
-
 -- "3. Deliver a b: the oldest message from a to b is taken off and handled by b."
 unfoldable pub delivered : Table → ℕ → Table
 delivered t k = handle (pull t k) (messageAt t k)
@@ -44,32 +29,6 @@ unfoldable pub deliverOf : Table → ℕ → ℕ → Answer
 deliverOf t a b =
     cond (leb (t .«in_flight») (oldest t a b)) (refuse 15 t)
     (accept (delivered t (oldest t a b)))
-
--- "4. Start a b: machine a moves job b from its pool to running."
-unfoldable pub started : Table → ℕ → ℕ → Table
-started t a b = withNode (withPool t a b 0) a (running (nodeAt t a) b (poolAt t a b))
-
--- 12 a dead; 17 a running; 18 job not in pool
-unfoldable pub startOf : Table → ℕ → ℕ → Answer
-startOf t a b =
-    cond (not (lives t a)) (refuse 12 t)
-    (cond (not (eqb (nodeAt t a .«running_replica») 0)) (refuse 17 t)
-    (cond (eqb (poolAt t a b) 0) (refuse 18 t)
-    (accept (started t a b))))
-
--- "5. Done a: the running copy goes and RESULT with its price is sent to the root."
-unfoldable pub finished : Table → ℕ → Table
-finished t a =
-    send (withNode t a (running (nodeAt t a) 0 0))
-    (result a (nodeAt t a .«running_job») (nodeAt t a .«running_replica») (priceBits (bondAt t (nodeAt t a .«running_job»))))
-
--- 12 a dead; 19 nothing running; 16 128 in flight
-unfoldable pub doneOf : Table → ℕ → Answer
-doneOf t a =
-    cond (not (lives t a)) (refuse 12 t)
-    (cond (eqb (nodeAt t a .«running_replica») 0) (refuse 19 t)
-    (cond (leb 128 (t .«in_flight»)) (refuse 16 t)
-    (accept (finished t a))))
 
 -- "6. Die a: its pool, reserved, running and waiting are cleared; messages to it are dropped; those it sent stay in flight."
 unfoldable pub died : Table → ℕ → Table

@@ -1,35 +1,13 @@
-// The seven events of a table that passed check 9, for machine and entry numbers in range: events 1 to 6 here, event 7 in notice.rt.
+// Events 1, 3 and 6 on a table that passed check 9, for machine and entry numbers in range: Admit, Deliver, Die. Steal and Notice are crates of their
+// own, Start and Done the crate `work`.
 // An event is a chain of its refusals in document 01's order, and a function that makes the new table.
 ghost use mathlib.Core.Path.{_≡_};
 ghost use Prim.Native.Nat.{_<_, _≤_};
-ghost use Rattle.table.specs.Views.{nodeAt, withJob, enter};
-ghost use Rattle.table.specs.Parts.{opened};
-ghost use Rattle.events.specs.Needs.{Ready};
-ghost use Rattle.events.specs.Events.{admitOf, stolen, stealOf, deliverOf, started, startOf, finished, doneOf, died, dieOf};
+ghost use Rattle.messages.specs.Needs.{Ready};
+ghost use Rattle.events.specs.Events.{admitOf, deliverOf, died, dieOf};
 use table::Answer;
-use table::Job;
 use table::Machine;
-use table::Message;
 use table::Table;
-
-pub mod notice;
-
-// Job j is open, with replica number r, on the root, and enters the root's pool.
-fn open(t: Table, j: usize, r: u8) -> Table
-    requires { ⌜ j < 64 ⌝ }
-    ensures { λ u. ⌜ u ≡ enter (withJob t j (opened r)) 0 j r ⌝ }
-{
-    let mut u = t;
-    u.jobs[j] = Job {
-        state: 1,
-        replica: r,
-        moving: 0,
-        holder: 0,
-        thief: 0,
-        price: 0,
-    };
-    messages::enter(u, 0, j, r)
-}
 
 // Event 1.
 pub fn admit(t: Table, a: u8) -> Answer
@@ -42,65 +20,10 @@ pub fn admit(t: Table, a: u8) -> Answer
     if job.state != 0 {
         return table::refuse(13, t);
     }
-    let opened = open(t, j, 1);
+    let opened = pools::open_on_root(t, j, 1);
     Answer {
         number: 0,
         table: opened,
-    }
-}
-
-// Thief a sends FISH to b and waits on b.
-fn stolen(t: Table, a: u8, b: u8) -> Table
-    requires { ⌜ (a < 16) × (b < 16) ⌝ }
-    requires { ⌜ t .«in_flight» < 128 ⌝ }
-    ensures { λ r. ⌜ r ≡ stolen t a b ⌝ }
-{
-    let mut n = t.nodes[a as usize];
-    n.waits = b + 1;
-    let mut u = t;
-    u.nodes[a as usize] = n;
-    messages::send(
-        u,
-        Message {
-            kind: table::FISH,
-            from: a,
-            to: b,
-            job: 0,
-            replica: 0,
-            thief: 0,
-            price: 0,
-        },
-    )
-}
-
-// Event 2.
-pub fn steal(t: Table, a: u8, b: u8) -> Answer
-    requires { ⌜ Ready t ⌝ }
-    requires { ⌜ (a < t .machines) × (b < t .machines) ⌝ }
-    ensures { λ r. ⌜ r ≡ stealOf t a b ⌝ }
-{
-    let n = t.nodes[a as usize];
-    if n.alive != 1 {
-        return table::refuse(12, t);
-    }
-    if a == b {
-        return table::refuse(14, t);
-    }
-    if n.waits != 0 {
-        return table::refuse(14, t);
-    }
-    let told = messages::told_at(t, a as usize, b as usize);
-    if told != 0 {
-        return table::refuse(14, t);
-    }
-    let used = t.in_flight;
-    if 128 <= used {
-        return table::refuse(16, t);
-    }
-    let sent = stolen(t, a, b);
-    Answer {
-        number: 0,
-        table: sent,
     }
 }
 
@@ -123,103 +46,12 @@ pub fn deliver(t: Table, a: u8, b: u8) -> Answer
     }
 }
 
-// Machine a moves job b from its pool to running.
-fn started(t: Table, a: u8, b: u8) -> Table
-    requires { ⌜ (a < 16) × (b < 64) ⌝ }
-    ensures { λ r. ⌜ r ≡ started t a b ⌝ }
-{
-    let i = (a as usize) * 64 + (b as usize);
-    let mut n = t.nodes[a as usize];
-    n.running_job = b;
-    n.running_replica = t.pools[i];
-    let mut u = t;
-    u.pools[i] = 0;
-    u.nodes[a as usize] = n;
-    u
-}
-
-// Event 4.
-pub fn start(t: Table, a: u8, b: u8) -> Answer
-    requires { ⌜ Ready t ⌝ }
-    requires { ⌜ (a < t .machines) × (b < t .entries) ⌝ }
-    ensures { λ r. ⌜ r ≡ startOf t a b ⌝ }
-{
-    let n = t.nodes[a as usize];
-    if n.alive != 1 {
-        return table::refuse(12, t);
-    }
-    if n.running_replica != 0 {
-        return table::refuse(17, t);
-    }
-    let r = t.pools[(a as usize) * 64 + (b as usize)];
-    if r == 0 {
-        return table::refuse(18, t);
-    }
-    let u = started(t, a, b);
-    Answer {
-        number: 0,
-        table: u,
-    }
-}
-
-// The running copy of a goes and RESULT with its price is sent to the root.
-fn finished(t: Table, a: u8) -> Table
-    requires { ⌜ (a < 16) × (nodeAt t a .«running_job» < 64) ⌝ }
-    requires { ⌜ t .«in_flight» < 128 ⌝ }
-    ensures { λ r. ⌜ r ≡ finished t a ⌝ }
-{
-    let mut n = t.nodes[a as usize];
-    let j = n.running_job;
-    let r = n.running_replica;
-    let bond = t.bonds[j as usize];
-    let bits = pricer::price_bits(bond);
-    n.running_job = 0;
-    n.running_replica = 0;
-    let mut u = t;
-    u.nodes[a as usize] = n;
-    messages::send(
-        u,
-        Message {
-            kind: table::RESULT,
-            from: a,
-            to: 0,
-            job: j,
-            replica: r,
-            thief: 0,
-            price: bits,
-        },
-    )
-}
-
-// Event 5.
-pub fn done(t: Table, a: u8) -> Answer
-    requires { ⌜ Ready t ⌝ }
-    requires { ⌜ a < t .machines ⌝ }
-    ensures { λ r. ⌜ r ≡ doneOf t a ⌝ }
-{
-    let n = t.nodes[a as usize];
-    if n.alive != 1 {
-        return table::refuse(12, t);
-    }
-    if n.running_replica == 0 {
-        return table::refuse(19, t);
-    }
-    if 128 <= t.in_flight {
-        return table::refuse(16, t);
-    }
-    let u = finished(t, a);
-    Answer {
-        number: 0,
-        table: u,
-    }
-}
-
 // Machine a's pool, reserved, running and waiting are cleared, and messages to it are dropped.
 fn died(t: Table, a: u8) -> Table
     requires { ⌜ (a < 16) × (t .«in_flight» ≤ 128) ⌝ }
     ensures { λ r. ⌜ r ≡ died t a ⌝ }
 {
-    let mut u = messages::wipe(t, a as usize);
+    let mut u = pools::wipe(t, a as usize);
     u.nodes[a as usize] = Machine {
         alive: 0,
         reserved_job: 0,

@@ -12,9 +12,14 @@ use Rattle.table.specs.Views.{flight, jobAt, parts, enter}
 use Rattle.table.specs.Messages.{push, pull, sift, send, oldest, lowest, wipe}
 use Rattle.table.specs.Parts.{pieces, copyIs, reserves, returned, message, result, opened, DENIED}
 use Rattle.opening.specs.Opening.{blank, nodesOf}
-use Rattle.handlers.specs.Handlers.{noWork, grant, onFish, reply, onReq, onAuth, onDenied, onObsolete, onSchedule, onNoWork, onAck, onResult, handle}
-use Rattle.events.specs.Events.{admitted, admitOf, stolen, stealOf, delivered, deliverOf, started, startOf, finished, doneOf, died, dieOf}
-use Rattle.events.specs.Notice.{informed, unwaited, reclaimed, quieted, reissueOne, reissue, noticed, noticeOf}
+use Rattle.victim_handlers.specs.VictimHandlers.{noWork, grant, onFish, onAuth, onDenied, onObsolete}
+use Rattle.thief_handlers.specs.ThiefHandlers.{onSchedule, onNoWork}
+use Rattle.root_handlers.specs.RootHandlers.{reply, onReq, onAck, onResult}
+use Rattle.handlers.specs.Handlers.{handle}
+use Rattle.events.specs.Events.{admitted, admitOf, delivered, deliverOf, died, dieOf}
+use Rattle.steal.specs.Steal.{stolen, stealOf}
+use Rattle.work.specs.Work.{started, startOf, finished, doneOf}
+use Rattle.notice.specs.Notice.{informed, unwaited, reclaimed, quieted, reissueOne, reissue, noticed, noticeOf}
 use Rattle.dispatcher.specs.Step.{formed as eventFormed, numbered, eventOf, answerOf}
 use Rattle.examples.specs.Rows.{three, after, deadThief, beforeAck, lateAck, bookWith, given, stated}
 

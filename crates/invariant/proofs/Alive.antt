@@ -11,8 +11,10 @@ use Rattle.table.specs.Views.{nodeAt, poolAt, withNode, withPool}
 use Rattle.table.specs.Messages.{send}
 use Rattle.table.specs.Parts.{running}
 use Rattle.table.proofs.Views.{Sized, views, alive-node, node-messages}
-use Rattle.events.specs.Events.{admitted, stolen, started, finished}
-use Rattle.events.specs.Notice.{quieted, reissue, noticed}
+use Rattle.events.specs.Events.{admitted}
+use Rattle.steal.specs.Steal.{stolen}
+use Rattle.work.specs.Work.{started, finished}
+use Rattle.notice.specs.Notice.{quieted, reissue, noticed}
 use Rattle.invariant.proofs.Flight.{view-either, view-send}
 use Rattle.invariant.proofs.Frame.{frame-refl, frame-node, frame-pool, node-enter}
 use Rattle.invariant.proofs.About.{alive-waiting, alive-running}

@@ -9,7 +9,10 @@ use borrow.Author.Tests.{eqb-true, eqb-false}
 use Rattle.table.specs.declared.Message.{Message}
 use Rattle.table.specs.declared.Table.{Table}
 use Rattle.table.specs.Parts.{FISH, REQ, AUTH, DENIED, OBSOLETE, SCHEDULE, ACK, NOWORK, RESULT}
-use Rattle.handlers.specs.Handlers.{handle, onFish, onReq, onAuth, onDenied, onObsolete, onSchedule, onAck, onNoWork, onResult}
+use Rattle.handlers.specs.Handlers.{handle}
+use Rattle.victim_handlers.specs.VictimHandlers.{onFish, onAuth, onDenied, onObsolete}
+use Rattle.thief_handlers.specs.ThiefHandlers.{onSchedule, onNoWork}
+use Rattle.root_handlers.specs.RootHandlers.{onReq, onAck, onResult}
 use Rattle.lists.proofs.Cases.{byBool}
 
 module _ (P : Table → Type 0) (s : Table) (x : Message) (least : 1 ≤ x .kind) (most : x .kind ≤ 9)

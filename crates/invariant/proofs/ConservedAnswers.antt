@@ -16,7 +16,7 @@ use Rattle.table.specs.Views.{nodeAt, flight, withNode}
 use Rattle.table.specs.Messages.{send}
 use Rattle.table.specs.Parts.{copyIs, reserves, release, returned, message, REQ, SCHEDULE, NOWORK}
 use Rattle.table.proofs.Views.{node-same, node-other}
-use Rattle.handlers.specs.Handlers.{noWork, onAuth, onDenied, onObsolete}
+use Rattle.victim_handlers.specs.VictimHandlers.{noWork, onAuth, onDenied, onObsolete}
 use Rattle.invariant.proofs.State.{Conserved, Hand, isAnswer, about}
 use Rattle.invariant.proofs.Frame.{Frame, frame-refl, frame-node, frame-returned, node-returned, node-returned-other}
 use Rattle.invariant.proofs.About.{plain, about-plain, plain-not, about-answer, copy-eqs, reserves-release, reserves-same, alive-release, kind-message}

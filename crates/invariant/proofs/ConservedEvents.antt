@@ -8,7 +8,9 @@ use Rattle.table.specs.declared.Table.{Table}
 use Rattle.table.specs.Views.{bondAt, nodeAt, poolAt, flight, withJob, withNode, withPool, enter}
 use Rattle.table.specs.Parts.{opened, reserves, running, waiting, message, result, FISH}
 use Rattle.table.proofs.Views.{views, node-pool}
-use Rattle.events.specs.Events.{admitted, stolen, started, finished}
+use Rattle.events.specs.Events.{admitted}
+use Rattle.steal.specs.Steal.{stolen}
+use Rattle.work.specs.Work.{started, finished}
 use Rattle.invariant.proofs.State.{Conserved, Whole, isAnswer}
 use Rattle.invariant.proofs.Frame.{Frame, frame-refl, frame-job, frame-pool, frame-node, frame-enter, part-kept, node-enter}
 use Rattle.invariant.proofs.About.{plain, reserves-running, reserves-waiting, alive-running, alive-waiting}

@@ -17,7 +17,7 @@ use Rattle.table.specs.Views.{nodeAt, poolAt, flight, withNode, withPool}
 use Rattle.table.specs.Messages.{lowest}
 use Rattle.table.specs.Parts.{copyIs, reserves, reserve, message, REQ, FISH, NOWORK}
 use Rattle.table.proofs.Views.{node-same, node-other, node-pool, sized-pool}
-use Rattle.handlers.specs.Handlers.{noWork, grant, onFish}
+use Rattle.victim_handlers.specs.VictimHandlers.{noWork, grant, onFish}
 use Rattle.preservation.proofs.Facts.{lowest-in}
 use Rattle.invariant.proofs.State.{Conserved, Hand, isAnswer, about}
 use Rattle.invariant.proofs.Frame.{Frame, frame-refl, frame-pool, frame-node}

@@ -17,7 +17,7 @@ use Rattle.table.specs.declared.Table.{Table}
 use Rattle.table.specs.Views.{nodeAt, toldAt, flight}
 use Rattle.table.specs.Messages.{notFrom}
 use Rattle.table.specs.Parts.{copyIs, reserves, REQ}
-use Rattle.events.specs.Notice.{quieted, noticed}
+use Rattle.notice.specs.Notice.{quieted, noticed}
 use Rattle.invariant.proofs.State.{Conserved, Whole, Sender, isAnswer, about}
 use Rattle.invariant.proofs.About.{reserves-release, reserves-waiting, alive-release, alive-waiting}
 use Rattle.invariant.proofs.Quieted.{reclaimedNode, unwaitedNode, quietedNode, flight-quieted, told-quieted, told-quieted-other, told-quieted-others, node-quieted, node-quieted-other}

@@ -15,7 +15,8 @@ use Rattle.table.specs.declared.Table.{Table}
 use Rattle.table.specs.Views.{jobAt, nodeAt, toldAt, flight, withJob, withNode, enter}
 use Rattle.table.specs.Parts.{moved, placed, priced, reserves, waiting, message, REQ, AUTH, DENIED, OBSOLETE, SCHEDULE, ACK, NOWORK, RESULT}
 use Rattle.table.proofs.Views.{views}
-use Rattle.handlers.specs.Handlers.{reply, onReq, onSchedule, onAck, onNoWork, onResult}
+use Rattle.root_handlers.specs.RootHandlers.{reply, onReq, onAck, onResult}
+use Rattle.thief_handlers.specs.ThiefHandlers.{onSchedule, onNoWork}
 use Rattle.invariant.proofs.State.{Conserved, Hand, isAnswer}
 use Rattle.invariant.proofs.Frame.{Frame, frame-refl, frame-job, frame-node, frame-enter, part-kept, node-enter}
 use Rattle.invariant.proofs.About.{plain, about-reply, reserves-waiting, alive-waiting, kind-message}

@@ -14,11 +14,16 @@ use Rattle.table.specs.Views.{noMachine, bondAt, jobAt, nodeAt, toldAt, message
 use Rattle.table.specs.Messages.{pull, sift, send, lowest, wipe}
 use Rattle.table.specs.Parts.{reserves, returned, AUTH, DENIED, OBSOLETE}
 use Rattle.table.proofs.Views.{bond-job, bond-node, bond-pool, bond-told, bond-messages}
-use Rattle.handlers.specs.Handlers.{noWork, grant, onFish, reply, onReq, onAuth, onDenied, onObsolete, onSchedule, onAck, onNoWork, onResult, handle}
-use Rattle.events.specs.Events.{admitted, stolen, delivered, started, finished, died}
+use Rattle.victim_handlers.specs.VictimHandlers.{noWork, grant, onFish, onAuth, onDenied, onObsolete}
+use Rattle.thief_handlers.specs.ThiefHandlers.{onSchedule, onNoWork}
+use Rattle.root_handlers.specs.RootHandlers.{reply, onReq, onAck, onResult}
+use Rattle.handlers.specs.Handlers.{handle}
+use Rattle.events.specs.Events.{admitted, delivered, died}
+use Rattle.steal.specs.Steal.{stolen}
+use Rattle.work.specs.Work.{started, finished}
 use Rattle.dispatcher.specs.Step.{stepOf, runOf}
 use Rattle.dispatcher.proofs.ByEvent.{Kept, by-step, by-run}
-use Rattle.events.specs.Notice.{informed, unwaited, reclaimed, quieted, lost, reissueOne, reissue, noticed}
+use Rattle.notice.specs.Notice.{informed, unwaited, reclaimed, quieted, lost, reissueOne, reissue, noticed}
 use Rattle.invariant.proofs.Flight.{view-either, view-send}
 
 -- no one-part update writes what f reads

@@ -17,14 +17,17 @@ use Rattle.table.specs.Views.{bondAt, jobAt, nodeAt, poolAt, flight, withJob, w
 use Rattle.table.specs.Messages.{notTo, notFrom, send}
 use Rattle.table.specs.Parts.{opened, running, message, result}
 use Rattle.table.proofs.Views.{views}
-use Rattle.events.specs.Events.{admitted, stolen, started, finished, died}
-use Rattle.events.specs.Notice.{lost, quieted, noticed}
+use Rattle.events.specs.Events.{admitted, died}
+use Rattle.steal.specs.Steal.{stolen}
+use Rattle.work.specs.Work.{started, finished}
+use Rattle.notice.specs.Notice.{lost, quieted, noticed}
 use Rattle.preservation.proofs.Sizes.{sized-quieted}
 use Rattle.invariant.proofs.State.{Prices, RightPrice, Whole}
 use Rattle.invariant.proofs.Frame.{Frame, frame-refl, frame-node, frame-pool, flight-enter, job-enter}
 use Rattle.invariant.proofs.About.{alive-running, alive-waiting}
 use Rattle.invariant.proofs.Died.{job-died, flight-died}
-use Rattle.invariant.proofs.Quieted.{job-quieted, flight-quieted}
+use Rattle.notice.proofs.Parts.{job-quieted}
+use Rattle.invariant.proofs.Quieted.{flight-quieted}
 use Rattle.invariant.proofs.Reissued.{reissuedJob, job-reissue, flight-reissue}
 use Rattle.invariant.proofs.Fixed.{fixed-bond, fixed-admitted, fixed-stolen, fixed-started, fixed-finished, fixed-died, fixed-noticed}
 use Rattle.invariant.proofs.PricesHandle.{PricesBy, prices-by, by-prices, by-send, by-frame, by-job}

@@ -9,12 +9,12 @@ use Rattle.lists.specs.Scan.{keep}
 use Rattle.lists.proofs.Cases.{byBool}
 use Rattle.table.specs.declared.Machine.{Machine}
 use Rattle.table.specs.declared.Table.{Table}
-use Rattle.table.specs.Views.{jobAt, nodeAt, toldAt, flight, withNode, withMessages, enter}
+use Rattle.table.specs.Views.{nodeAt, toldAt, flight, withNode, withMessages, enter}
 use Rattle.table.specs.Messages.{sift, notFrom}
 use Rattle.table.specs.Parts.{release, waiting, returned}
 use Rattle.table.proofs.Views.{Sized, views, node-same, node-other, told-same, told-other, told-other-node, told-messages, flight-told}
 use Rattle.table.proofs.Messages.{flight-sift, sized-sift}
-use Rattle.events.specs.Notice.{informed, unwaited, reclaimed, quieted}
+use Rattle.notice.specs.Notice.{informed, unwaited, reclaimed, quieted}
 use Rattle.preservation.proofs.Sizes.{sized-informed, sized-reclaimed}
 use Rattle.invariant.proofs.Frame.{node-returned, node-returned-other}
 
@@ -63,10 +63,6 @@ module _ (t : Table) (a b : ℕ) where
   same-quieted f p q =
       same-unwaited (reclaimed (informed t a b) a b) a b f (q (reclaimed (informed t a b) a b) _)
       ∙ same-reclaimed (informed t a b) a b f (p (informed t a b))
-
-  pub job-quieted : (j : ℕ) → jobAt (quieted t a b) j ≡ jobAt t j
-  unfolding informed sift returned enter
-  job-quieted j = same-quieted (λ u. jobAt u j) (λ u. simp views) (λ u v. simp views) ∙ simp views
 
   pub flight-quieted : flight (quieted t a b) ≡ keep (notFrom b a) (flight t)
   unfolding informed returned enter

@@ -13,7 +13,7 @@ use Rattle.table.specs.declared.Table.{Table}
 use Rattle.table.specs.Views.{jobAt, nodeAt, toldAt, flight, withJob, enter}
 use Rattle.table.specs.Parts.{opened}
 use Rattle.table.proofs.Views.{Sized, views, job-same, job-other, job-pool}
-use Rattle.events.specs.Notice.{lost, reissueOne, reissue}
+use Rattle.notice.specs.Notice.{lost, reissueOne, reissue}
 use Rattle.preservation.proofs.Sizes.{sized-reissueOne}
 
 -- the job after the death of b

@@ -16,7 +16,9 @@ use Rattle.table.specs.Views.{noMachine, bondAt, jobAt, nodeAt, poolAt, flight,
 use Rattle.table.specs.Messages.{notTo, send}
 use Rattle.table.specs.Parts.{opened, running, waiting, message, result, FISH}
 use Rattle.table.proofs.Views.{views, node-same, node-other, node-pool, flight-job}
-use Rattle.events.specs.Events.{admitted, stolen, started, finished, died}
+use Rattle.events.specs.Events.{admitted, died}
+use Rattle.steal.specs.Steal.{stolen}
+use Rattle.work.specs.Work.{started, finished}
 use Rattle.invariant.proofs.State.{Side, Sender, Copies, Placed, Whole, isAnswer}
 use Rattle.invariant.proofs.Frame.{Frame, frame-refl, frame-node, frame-pool, node-enter, job-enter, told-enter, flight-enter}
 use Rattle.invariant.proofs.About.{alive-running, alive-waiting}

@@ -17,7 +17,10 @@ use Rattle.table.specs.Views.{jobAt, nodeAt, poolAt, toldAt, messageAt, flight,
 use Rattle.table.specs.Messages.{pull, send, lowest}
 use Rattle.table.specs.Parts.{moved, placed, priced, reserve, release, waiting, reserves, returned, message, REQ, AUTH, DENIED, OBSOLETE, SCHEDULE, ACK, NOWORK}
 use Rattle.table.proofs.Views.{views, node-same, node-other, node-pool, flight-job}
-use Rattle.handlers.specs.Handlers.{noWork, grant, onFish, reply, onReq, onAuth, onDenied, onObsolete, onSchedule, onAck, onNoWork, onResult, handle}
+use Rattle.victim_handlers.specs.VictimHandlers.{noWork, grant, onFish, onAuth, onDenied, onObsolete}
+use Rattle.thief_handlers.specs.ThiefHandlers.{onSchedule, onNoWork}
+use Rattle.root_handlers.specs.RootHandlers.{reply, onReq, onAck, onResult}
+use Rattle.handlers.specs.Handlers.{handle}
 use Rattle.events.specs.Events.{delivered}
 use Rattle.invariant.proofs.State.{Side, Sender, Copies, Hand, Whole, isAnswer}
 use Rattle.invariant.proofs.Hand.{hand}

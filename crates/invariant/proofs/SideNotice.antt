@@ -19,12 +19,13 @@ use Rattle.table.specs.declared.Table.{Table}
 use Rattle.table.specs.Views.{jobAt, nodeAt, toldAt, flight}
 use Rattle.table.specs.Messages.{notFrom}
 use Rattle.table.specs.Parts.{opened}
-use Rattle.events.specs.Notice.{lost, quieted, reissue, noticed}
+use Rattle.notice.specs.Notice.{lost, quieted, reissue, noticed}
 use Rattle.preservation.proofs.Facts.{MessageFacts}
 use Rattle.preservation.proofs.Sizes.{sized-quieted}
 use Rattle.invariant.proofs.State.{Side, Sender, Copies, Placed, Whole}
 use Rattle.invariant.proofs.SideFrame.{copies-release, copies-waiting, living-untold}
-use Rattle.invariant.proofs.Quieted.{reclaimedNode, unwaitedNode, quietedNode, job-quieted, flight-quieted, told-quieted-other, told-quieted-others, node-quieted, node-quieted-other}
+use Rattle.invariant.proofs.Quieted.{reclaimedNode, unwaitedNode, quietedNode, flight-quieted, told-quieted-other, told-quieted-others, node-quieted, node-quieted-other}
+use Rattle.notice.proofs.Parts.{job-quieted}
 use Rattle.invariant.proofs.Reissued.{reissuedJob, node-reissue, told-reissue, flight-reissue, job-reissue, job-reissue-past}
 
 -- a job that is not lost names b neither as holder nor, while it moves, as thief

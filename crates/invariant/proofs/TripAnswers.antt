@@ -15,7 +15,7 @@ use Rattle.table.specs.Views.{jobAt, nodeAt, toldAt, flight, withNode}
 use Rattle.table.specs.Messages.{send}
 use Rattle.table.specs.Parts.{copyIs, reserves, release, returned, message, REQ, AUTH, DENIED, OBSOLETE, SCHEDULE, NOWORK}
 use Rattle.table.proofs.Views.{views, pool-node}
-use Rattle.handlers.specs.Handlers.{noWork, onAuth, onDenied, onObsolete}
+use Rattle.victim_handlers.specs.VictimHandlers.{noWork, onAuth, onDenied, onObsolete}
 use Rattle.lists.proofs.Cases.{byBool, byEq, and-left, and-right}
 use Rattle.lists.proofs.Count.{ind}
 use Rattle.invariant.proofs.Frame.{Frame, frame-refl, frame-node, frame-returned, entered}

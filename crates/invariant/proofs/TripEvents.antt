@@ -7,7 +7,7 @@ use native.Mathlib.Omega.{arith}
 use lib.Dec.{eqb}
 use borrow.Author.Tests.{eq-eqb}
 use Rattle.pricer.specs.Price.{priceBits}
-use Rattle.elements.specs.Elements.{toRoot}
+use Rattle.slots.specs.Slots.{toRoot}
 use Rattle.table.specs.declared.Job.{Job}
 use Rattle.table.specs.declared.Machine.{Machine}
 use Rattle.table.specs.declared.Message.{Message}
@@ -16,7 +16,9 @@ use Rattle.table.specs.Views.{noMessage, bondAt, jobAt, nodeAt, poolAt, flight,
 use Rattle.table.specs.Messages.{send}
 use Rattle.table.specs.Parts.{running, waiting, message, result, FISH, ACK, RESULT}
 use Rattle.table.proofs.Views.{views, pool-node, flight-node, flight-pool}
-use Rattle.events.specs.Events.{admitted, stolen, started, finished}
+use Rattle.events.specs.Events.{admitted}
+use Rattle.steal.specs.Steal.{stolen}
+use Rattle.work.specs.Work.{started, finished}
 use Rattle.lists.proofs.Cases.{byBool, byEq, and-left, and-right}
 use Rattle.lists.proofs.Count.{ind}
 use Rattle.invariant.proofs.Frame.{Frame, frame-refl, frame-node, frame-pool, entered}

@@ -16,7 +16,7 @@ use Rattle.table.specs.Views.{jobAt, nodeAt, flight, withJob, withNode}
 use Rattle.table.specs.Messages.{sift, notFrom}
 use Rattle.table.specs.Parts.{opened, waiting, returned}
 use Rattle.table.proofs.Views.{Sized, views, sized-job, job-other, pool-node}
-use Rattle.events.specs.Notice.{informed, unwaited, reclaimed, quieted, lost, reissueOne, reissue, noticed}
+use Rattle.notice.specs.Notice.{informed, unwaited, reclaimed, quieted, lost, reissueOne, reissue, noticed}
 use Rattle.preservation.proofs.Sizes.{sized-enter, sized-informed, sized-reclaimed, sized-quieted}
 use Rattle.lists.specs.Scan.{keep, upTo}
 use Rattle.lists.proofs.Cases.{byBool}

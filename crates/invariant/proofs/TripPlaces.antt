@@ -14,7 +14,7 @@ use Rattle.table.specs.declared.Table.{Table}
 use Rattle.table.specs.Views.{jobAt, toldAt, flight, withJob}
 use Rattle.table.specs.Parts.{moved, placed, priced, message, REQ, AUTH, DENIED, OBSOLETE, ACK, RESULT}
 use Rattle.table.proofs.Views.{job-same, job-other, node-job, pool-job, flight-job}
-use Rattle.handlers.specs.Handlers.{reply, onReq, onAck, onResult}
+use Rattle.root_handlers.specs.RootHandlers.{reply, onReq, onAck, onResult}
 use Rattle.lists.proofs.Cases.{byBool, byEq, byAnd}
 use Rattle.lists.proofs.Count.{ind, count, Every}
 use Rattle.invariant.proofs.Frame.{frame-refl, frame-job}

@@ -13,7 +13,8 @@ use Rattle.table.specs.Views.{jobAt, nodeAt, poolAt, flight, withNode, withPool
 use Rattle.table.specs.Messages.{lowest}
 use Rattle.table.specs.Parts.{reserve, waiting, message, FISH, REQ, SCHEDULE, ACK, NOWORK}
 use Rattle.table.proofs.Views.{Sized, views, pool-node, flight-node}
-use Rattle.handlers.specs.Handlers.{noWork, grant, onFish, onSchedule, onNoWork}
+use Rattle.victim_handlers.specs.VictimHandlers.{noWork, grant, onFish}
+use Rattle.thief_handlers.specs.ThiefHandlers.{onSchedule, onNoWork}
 use Rattle.preservation.proofs.Sizes.{sized-enter}
 use Rattle.lists.proofs.Cases.{byBool, and-left, and-right}
 use Rattle.lists.proofs.Count.{ind}

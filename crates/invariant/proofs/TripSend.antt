@@ -13,7 +13,7 @@ use Rattle.table.specs.Views.{noMessage, jobAt, nodeAt, poolAt, messageAt, flig
 use Rattle.table.specs.Messages.{pull, send}
 use Rattle.table.specs.Parts.{ACK, RESULT}
 use Rattle.table.proofs.Views.{Sized, views}
-use Rattle.elements.specs.Elements.{toRoot}
+use Rattle.slots.specs.Slots.{toRoot}
 use Rattle.lists.specs.Scan.{without}
 use Rattle.lists.proofs.Count.{ind, count-append, every-append}
 use Rattle.invariant.proofs.Flight.{sends, takes, count-taken, every-taken}

@@ -5,7 +5,7 @@ use borrow.Author.Tests.{ne-eqb}
 use Rattle.table.specs.declared.Message.{Message}
 use Rattle.table.specs.declared.Table.{Table}
 use Rattle.table.specs.Views.{jobAt}
-use Rattle.handlers.specs.Handlers.{onResult}
+use Rattle.root_handlers.specs.RootHandlers.{onResult}
 
 pub result-untouched : (t : Table) (m : Message) → jobAt t (m .job) .state ≢ 1 → onResult t m ≡ t
 unfolding onResult

@@ -1,15 +1,11 @@
-// The small steps on a table that every event is made of: sending a message, finding one, taking one off, dropping some; copies in pools.
+// Messages in flight: sending one, finding the oldest of a channel, taking one off, dropping some.
 // Each equals the definition of the same name in the crate `table`.
 ghost use mathlib.Core.Path.{_≡_};
-ghost use Prim.Native.Nat.{_+_, _*_, _<_, _≤_, max};
-ghost use Rattle.table.specs.Views.{nodeAt, toldAt, enter};
-ghost use Rattle.table.specs.Messages.{chan, send, oldest, pull, sift, notTo, notFrom, lowest, wipe};
-ghost use Rattle.table.specs.Parts.{returned};
+ghost use Prim.Native.Nat.{_<_, _≤_};
+ghost use Rattle.table.specs.Messages.{chan, send, oldest, pull, sift, notTo, notFrom};
 ghost use Rattle.messages.specs.Others.{others};
 use table::Message;
 use table::Table;
-
-// ---- messages
 
 // "A message to a dead machine is stored nowhere."
 pub fn send(t: Table, m: Message) -> Table
@@ -117,84 +113,4 @@ pub fn drop_from(t: Table, b: u8, a: u8) -> Table
     ensures { λ r. ⌜ r ≡ sift t (notFrom b a) ⌝ }
 {
     drop(t, false, b, a)
-}
-
-// ---- copies in pools
-
-fn larger(a: u8, b: u8) -> u8
-    ensures { λ r. ⌜ r ≡ max a b ⌝ }
-{
-    if a <= b {
-        return b;
-    }
-    a
-}
-
-// "Adding a copy to a pool keeps the larger replica number."
-pub fn enter(t: Table, m: usize, j: usize, r: u8) -> Table
-    requires { ⌜ (m < 16) × (j < 64) ⌝ }
-    ensures { λ u. ⌜ u ≡ enter t m j r ⌝ }
-{
-    let i = m * 64 + j;
-    let x = t.pools[i];
-    let y = larger(x, r);
-    let mut u = t;
-    u.pools[i] = y;
-    u
-}
-
-// The lowest job of machine m's pool, or 64 where it is empty.
-pub fn lowest(t: Table, m: usize) -> usize
-    requires { ⌜ m < 16 ⌝ }
-    ensures { λ r. ⌜ r ≡ lowest t m ⌝ }
-{
-    let base = m * 64;
-    let mut j: usize = 0;
-    while j < 64 {
-        let x = t.pools[base + j];
-        if x != 0 {
-            return j;
-        }
-        j += 1;
-    }
-    j
-}
-
-// Machine m's pool is cleared.
-pub fn wipe(t: Table, m: usize) -> Table
-    requires { ⌜ m < 16 ⌝ }
-    ensures { λ r. ⌜ r ≡ wipe t m ⌝ }
-{
-    let base = m * 64;
-    let mut u = t;
-    let mut j: usize = 0;
-    while j < 64 {
-        u.pools[base + j] = 0;
-        j += 1;
-    }
-    u
-}
-
-// The reserved copy of machine m returns to its pool.
-pub fn returned(t: Table, m: usize) -> Table
-    requires { ⌜ (m < 16) × (nodeAt t m .«reserved_job» < 64) ⌝ }
-    ensures { λ r. ⌜ r ≡ returned t m ⌝ }
-{
-    let mut n = t.nodes[m];
-    let mut u = enter(t, m, n.reserved_job as usize, n.reserved_replica);
-    n.reserved_job = 0;
-    n.reserved_replica = 0;
-    n.reserved_thief = 0;
-    u.nodes[m] = n;
-    u
-}
-
-// ---- what a machine has been told
-
-// 1 where machine m has been told that machine d is dead.
-pub fn told_at(t: Table, m: usize, d: usize) -> u8
-    requires { ⌜ (m < 16) × (d < 16) ⌝ }
-    ensures { λ r. ⌜ r ≡ toldAt t m d ⌝ }
-{
-    t.told[m * 16 + d]
 }

@@ -16,9 +16,12 @@ use Rattle.table.specs.Messages.{pull}
 use Rattle.table.specs.Parts.{opened, running, waiting, lives, message, result}
 use Rattle.table.proofs.Views.{Sized, views, sized-job, sized-node, sized-pool, length-flight}
 use Rattle.table.proofs.Messages.{message-flight, sized-pull}
-use Rattle.elements.specs.Elements.{copyOk, messageOk}
+use Rattle.elements.specs.Elements.{copyOk}
+use Rattle.slots.specs.Slots.{messageOk}
 use Rattle.validity.specs.Validity.{bound}
-use Rattle.events.specs.Events.{admitted, stolen, delivered, started, finished}
+use Rattle.events.specs.Events.{admitted, delivered}
+use Rattle.steal.specs.Steal.{stolen}
+use Rattle.work.specs.Work.{started, finished}
 use Rattle.preservation.proofs.Ok.{Ok, inFlightOk, machines-some, machines-most, entries-most}
 use Rattle.preservation.proofs.Facts.{copy-is, copy-job, bound-pos, job-opened, running-copy, node-running, node-idle, cell-copy}
 use Rattle.preservation.proofs.Updates.{wide, ok-job, ok-node, ok-pool, ok-send, ok-pull}

@@ -7,8 +7,10 @@ use native.Mathlib.Omega.{arith}
 use Rattle.table.specs.declared.Table.{Table}
 use Rattle.table.specs.Views.{nodeAt, poolAt, toldAt}
 use Rattle.table.proofs.Views.{Sized}
-use Rattle.events.specs.Events.{admitted, stolen, delivered, started, finished, died}
-use Rattle.events.specs.Notice.{noticed}
+use Rattle.events.specs.Events.{admitted, delivered, died}
+use Rattle.steal.specs.Steal.{stolen}
+use Rattle.work.specs.Work.{started, finished}
+use Rattle.notice.specs.Notice.{noticed}
 use Rattle.preservation.proofs.Ok.{Ok, machines-most}
 use Rattle.preservation.proofs.Passed.{facts}
 use Rattle.preservation.proofs.Sizes.{sized-admitted, sized-stolen, sized-delivered, sized-started, sized-finished, sized-died, sized-noticed}

@@ -10,7 +10,8 @@ use Rattle.table.specs.declared.Job.{Job}
 use Rattle.table.specs.declared.Machine.{Machine}
 use Rattle.table.specs.declared.Message.{Message}
 use Rattle.table.specs.Views.{noJob, noMachine, noMessage}
-use Rattle.elements.specs.Elements.{emptyJob, emptyNode, emptyMessage}
+use Rattle.elements.specs.Elements.{emptyJob, emptyNode}
+use Rattle.slots.specs.Slots.{emptyMessage}
 
 pub empty-job : (v : Job) → emptyJob v ≡ true → v ≡ noJob
 empty-job v e =

@@ -17,7 +17,8 @@ use Rattle.table.specs.declared.Message.{Message}
 use Rattle.table.specs.Views.{noJob, noMachine, jobAt, nodeAt, poolAt, toldAt, flight}
 use Rattle.table.specs.Messages.{lowest}
 use Rattle.table.specs.Parts.{opened, moved, placed, priced, reserve, release, running, waiting}
-use Rattle.elements.specs.Elements.{copyOk, emptyJob, admittedOk, placeOk, jobOk, emptyNode, reservedOk, runningOk, nodeOk, toldOk, cellOk, kindOk, endsOk, carriesOk, thiefOk, withCopy, withThief, toRoot, messageOk}
+use Rattle.elements.specs.Elements.{copyOk, emptyJob, admittedOk, placeOk, jobOk, emptyNode, reservedOk, runningOk, nodeOk, toldOk, cellOk}
+use Rattle.slots.specs.Slots.{kindOk, endsOk, carriesOk, thiefOk, withCopy, withThief, toRoot, messageOk}
 use Rattle.validity.specs.Validity.{bound}
 use Rattle.preservation.proofs.Empty.{empty-job}
 

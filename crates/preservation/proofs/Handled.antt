@@ -15,9 +15,13 @@ use Rattle.table.specs.Views.{jobAt, nodeAt, poolAt, toldAt, withJob, withNode,
 use Rattle.table.specs.Messages.{lowest}
 use Rattle.table.specs.Parts.{moved, placed, priced, reserve, release, waiting, copyIs, reserves, returned, message}
 use Rattle.table.proofs.Views.{Sized, views, sized-job, sized-node, sized-pool}
-use Rattle.elements.specs.Elements.{copyOk, messageOk, withCopy}
+use Rattle.elements.specs.Elements.{copyOk}
+use Rattle.slots.specs.Slots.{messageOk, withCopy}
 use Rattle.validity.specs.Validity.{bound}
-use Rattle.handlers.specs.Handlers.{noWork, grant, onFish, reply, onReq, onAuth, onDenied, onObsolete, onSchedule, onAck, onNoWork, onResult, handle}
+use Rattle.victim_handlers.specs.VictimHandlers.{noWork, grant, onFish, onAuth, onDenied, onObsolete}
+use Rattle.thief_handlers.specs.ThiefHandlers.{onSchedule, onNoWork}
+use Rattle.root_handlers.specs.RootHandlers.{reply, onReq, onAck, onResult}
+use Rattle.handlers.specs.Handlers.{handle}
 use Rattle.preservation.proofs.Ok.{Ok, machines-some, machines-most, entries-most}
 use Rattle.preservation.proofs.Facts.{copy-job, copy-some, from-in, to-in, copy-in, thief-in, some-job, state-job, job-moved, job-placed, job-priced, reserved-copy, node-reserve, node-release, node-waiting, cell-copy, cell-enter, lowest-in}
 use Rattle.preservation.proofs.Updates.{wide, ok-job, ok-node, ok-pool, ok-send}

@@ -18,7 +18,7 @@ use Rattle.table.proofs.Views.{Sized, views, alive-node}
 use Rattle.table.proofs.Messages.{sized-sift}
 use Rattle.elements.specs.Elements.{copyOk}
 use Rattle.validity.specs.Validity.{bound}
-use Rattle.events.specs.Notice.{informed, unwaited, reclaimed, quieted, lost, reissueOne, reissue, noticed}
+use Rattle.notice.specs.Notice.{informed, unwaited, reclaimed, quieted, lost, reissueOne, reissue, noticed}
 use Rattle.preservation.proofs.Ok.{Ok, machines-some, machines-most}
 use Rattle.preservation.proofs.Facts.{copy-job, copy-most, copy-is, state-job, job-copy}
 use Rattle.preservation.proofs.Updates.{wide, ok-sift}

@@ -20,7 +20,8 @@ use Rattle.table.specs.declared.Message.{Message}
 use Rattle.table.specs.Views.{noMessage, bondAt, jobAt, nodeAt, poolAt, toldAt, messageAt, flight}
 use Rattle.table.proofs.Views.{Sized, length-flight}
 use Rattle.table.proofs.Messages.{Padded, message-flight}
-use Rattle.elements.specs.Elements.{bondOk, jobOk, nodeOk, toldOk, cellOk, messageOk, emptyMessage, slotOk}
+use Rattle.elements.specs.Elements.{bondOk, jobOk, nodeOk, toldOk, cellOk}
+use Rattle.slots.specs.Slots.{messageOk, emptyMessage, slotOk}
 use Rattle.validity.specs.Validity.{sizesOk, rootOk, bound, bondsOk, jobsOk, nodesOk, toldRow, toldsOk, poolRow, poolsOk, messagesOk, tableOk}
 use Rattle.preservation.proofs.Empty.{empty-message}
 

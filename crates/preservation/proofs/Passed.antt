@@ -17,7 +17,8 @@ use Rattle.table.specs.declared.Table.{Table}
 use Rattle.table.specs.Views.{noJob, noMachine, jobAt, nodeAt, poolAt, toldAt, flight}
 use Rattle.table.specs.Parts.{lives}
 use Rattle.table.proofs.Views.{Sized}
-use Rattle.elements.specs.Elements.{copyOk, emptyJob, admittedOk, placeOk, jobOk, reservedOk, runningOk, nodeOk, withCopy, withThief, kindOk, endsOk, carriesOk, thiefOk, messageOk}
+use Rattle.elements.specs.Elements.{copyOk, emptyJob, admittedOk, placeOk, jobOk, reservedOk, runningOk, nodeOk}
+use Rattle.slots.specs.Slots.{withCopy, withThief, kindOk, endsOk, carriesOk, thiefOk, messageOk}
 use Rattle.validity.specs.Validity.{bound}
 use Rattle.preservation.proofs.Empty.{empty-job, empty-machine}
 use Rattle.preservation.proofs.Ok.{Ok, inFlightOk, machines-some, machines-most, entries-most, used-most}

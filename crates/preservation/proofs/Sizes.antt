@@ -16,9 +16,14 @@ use Rattle.table.specs.Parts.{opened, reserves, release, returned}
 use Rattle.table.proofs.Views.{Sized, views, sized-job, sized-node, sized-pool, sized-told}
 use Rattle.table.proofs.Messages.{sized-send, sized-pull, sized-sift}
 use Rattle.table.proofs.Wipe.{sized-wipe}
-use Rattle.handlers.specs.Handlers.{noWork, grant, onFish, reply, onReq, onAuth, onDenied, onObsolete, onSchedule, onAck, onNoWork, onResult, handle}
-use Rattle.events.specs.Events.{admitted, stolen, delivered, started, finished, died}
-use Rattle.events.specs.Notice.{informed, unwaited, reclaimed, quieted, lost, reissueOne, reissue, noticed}
+use Rattle.victim_handlers.specs.VictimHandlers.{noWork, grant, onFish, onAuth, onDenied, onObsolete}
+use Rattle.thief_handlers.specs.ThiefHandlers.{onSchedule, onNoWork}
+use Rattle.root_handlers.specs.RootHandlers.{reply, onReq, onAck, onResult}
+use Rattle.handlers.specs.Handlers.{handle}
+use Rattle.events.specs.Events.{admitted, delivered, died}
+use Rattle.steal.specs.Steal.{stolen}
+use Rattle.work.specs.Work.{started, finished}
+use Rattle.notice.specs.Notice.{informed, unwaited, reclaimed, quieted, lost, reissueOne, reissue, noticed}
 
 pub sized-enter : (t : Table) (m j r : ℕ) → Sized t → Sized (enter t m j r)
 unfolding enter

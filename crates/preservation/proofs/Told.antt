@@ -16,7 +16,8 @@ use Rattle.table.specs.Views.{jobAt, nodeAt, poolAt, toldAt, flight, withTold}
 use Rattle.table.specs.Parts.{lives}
 use Rattle.table.proofs.Views.{Sized, views, told-same, told-other, told-other-node}
 use Rattle.table.proofs.Messages.{Padded}
-use Rattle.elements.specs.Elements.{copyOk, emptyJob, admittedOk, placeOk, jobOk, emptyNode, reservedOk, runningOk, nodeOk, cellOk, kindOk, endsOk, carriesOk, thiefOk, withCopy, messageOk}
+use Rattle.elements.specs.Elements.{copyOk, emptyJob, admittedOk, placeOk, jobOk, emptyNode, reservedOk, runningOk, nodeOk, cellOk}
+use Rattle.slots.specs.Slots.{kindOk, endsOk, carriesOk, thiefOk, withCopy, messageOk}
 use Rattle.validity.specs.Validity.{bound}
 use Rattle.preservation.proofs.Ok.{Ok, inFlightOk}
 use Rattle.preservation.proofs.Facts.{copy-job, copy-some, copy-most, copy-is}

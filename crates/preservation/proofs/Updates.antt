@@ -19,7 +19,8 @@ use Rattle.table.specs.Views.{nodeAt, flight, withJob, withNode, withPool, with
 use Rattle.table.specs.Messages.{push, pull, sift, send}
 use Rattle.table.proofs.Views.{Sized, views, job-same, job-other, node-same, node-other, pool-same, pool-other-node, pool-other-job, alive-node, length-flight}
 use Rattle.table.proofs.Messages.{Padded, flight-push, flight-pull, flight-sift, padded-push, padded-pull, padded-sift}
-use Rattle.elements.specs.Elements.{jobOk, nodeOk, cellOk, messageOk}
+use Rattle.elements.specs.Elements.{jobOk, nodeOk, cellOk}
+use Rattle.slots.specs.Slots.{messageOk}
 use Rattle.validity.specs.Validity.{sizesOk, bound}
 use Rattle.preservation.proofs.Ok.{Ok, inFlightOk}
 

@@ -84,19 +84,19 @@ pub fn price_bits(b: Bond) -> u64
     bits(price(b))
 }
 
-pub fn coupon_in_range(c: f64) -> bool
+fn coupon_in_range(c: f64) -> bool
     ensures { λ r. ⌜ r ≡ couponInRange c ⌝ }
 {
     (0.0 <= c) & (c <= 100.0)
 }
 
-pub fn yield_in_range(y: f64) -> bool
+fn yield_in_range(y: f64) -> bool
     ensures { λ r. ⌜ r ≡ yieldInRange y ⌝ }
 {
     (0.0 <= y) & (y <= 1.0)
 }
 
-pub fn terms_in_range(t: Terms) -> bool
+fn terms_in_range(t: Terms) -> bool
     ensures { λ r. ⌜ r ≡ termsInRange t ⌝ }
 {
     match t {

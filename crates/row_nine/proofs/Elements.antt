@@ -12,7 +12,8 @@ use Rattle.table.specs.declared.Job.{Job}
 use Rattle.table.specs.declared.Machine.{Machine}
 use Rattle.table.specs.declared.Message.{Message}
 use Rattle.table.specs.Views.{noJob, noMachine}
-use Rattle.elements.specs.Elements.{copyOk, emptyJob, admittedOk, placeOk, jobOk, emptyNode, reservedOk, runningOk, nodeOk, toldOk, cellOk, kindOk, endsOk, carriesOk, thiefOk, withCopy, withThief, toRoot, messageOk}
+use Rattle.elements.specs.Elements.{copyOk, emptyJob, admittedOk, placeOk, jobOk, emptyNode, reservedOk, runningOk, nodeOk, toldOk, cellOk}
+use Rattle.slots.specs.Slots.{kindOk, endsOk, carriesOk, thiefOk, withCopy, withThief, toRoot, messageOk}
 use Rattle.preservation.proofs.Facts.{copy-is}
 
 or-left : (a b : Bool) → a ≡ true → a || b ≡ true

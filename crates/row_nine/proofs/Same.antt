@@ -15,7 +15,8 @@ use Rattle.table.specs.declared.Message.{Message}
 use Rattle.table.specs.declared.Table.{Table}
 use Rattle.table.specs.Views.{noMessage, bondAt, jobAt, nodeAt, poolAt, toldAt, messageAt}
 use Rattle.table.proofs.Views.{Sized}
-use Rattle.elements.specs.Elements.{copyOk, bondOk, jobOk, nodeOk, reservedOk, runningOk, toldOk, cellOk, emptyMessage, kindOk, endsOk, carriesOk, thiefOk, withCopy, withThief, messageOk, slotOk}
+use Rattle.elements.specs.Elements.{copyOk, bondOk, jobOk, nodeOk, reservedOk, runningOk, toldOk, cellOk}
+use Rattle.slots.specs.Slots.{emptyMessage, kindOk, endsOk, carriesOk, thiefOk, withCopy, withThief, messageOk, slotOk}
 use Rattle.validity.specs.Validity.{sizesOk, bound, bondsOk, jobsOk, nodesOk, poolRow, poolsOk, messagesOk, toldRow, toldsOk, tableOk}
 use Rattle.preservation.proofs.Empty.{empty-message}
 use Rattle.preservation.proofs.Ok.{Ok, tests, joined, ok}

@@ -11,7 +11,8 @@ use Rattle.pricer.specs.Range.{inRange}
 use Rattle.table.specs.declared.Table.{Table}
 use Rattle.table.specs.Views.{noJob, noMachine, noMessage, bondAt, jobAt, nodeAt, poolAt, toldAt, messageAt}
 use Rattle.table.specs.Parts.{RESULT}
-use Rattle.elements.specs.Elements.{emptyBond, withCopy, withThief, toRoot}
+use Rattle.elements.specs.Elements.{emptyBond}
+use Rattle.slots.specs.Slots.{withCopy, withThief, toRoot}
 use Rattle.validity.specs.Validity.{bound}
 
 -- "a count .. outside its range"

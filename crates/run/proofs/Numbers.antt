@@ -10,8 +10,10 @@ use Rattle.table.specs.Views.{jobAt, nodeAt, poolAt, toldAt, refuse}
 use Rattle.table.specs.Parts.{lives, accept}
 use Rattle.table.specs.Messages.{oldest}
 use Rattle.validity.specs.Validity.{tableOk}
-use Rattle.events.specs.Events.{admitOf, stealOf, deliverOf, startOf, doneOf, dieOf}
-use Rattle.events.specs.Notice.{noticeOf}
+use Rattle.events.specs.Events.{admitOf, deliverOf, dieOf}
+use Rattle.steal.specs.Steal.{stealOf}
+use Rattle.work.specs.Work.{startOf, doneOf}
+use Rattle.notice.specs.Notice.{noticeOf}
 use Rattle.dispatcher.specs.Step.{codeOf, firstOf, secondOf, formed, numbered, eventOf, answerOf, stepOf}
 
 record Small (a : Answer) : Type 0 where

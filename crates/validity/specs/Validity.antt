@@ -1,6 +1,6 @@
 -- Refusal 9, "Table, before any event": when a table is in order. It is a test of any table whatever, also of one that no run reaches.
 --
--- The conditions of row 9 in document 01's order, and the definition that states each (E: of the crate `elements`):
+-- The conditions of row 9 in document 01's order, and the definition that states each (E: of the crates `elements` and `slots`):
 --
 --   "a count .. outside its range"                        sizesOk: 2 to 16 machines, 0 to 64 entries, up to 128 messages
 --   "number .. outside its range"                         machine numbers: placeOk, reservedOk, nodeOk (waits), toldOk, endsOk, thiefOk (E)
@@ -27,7 +27,8 @@ use lib.Dec.{leb, eqb}
 use Rattle.lists.specs.Scan.{all, countTo}
 use Rattle.table.specs.declared.Table.{Table}
 use Rattle.table.specs.Views.{bondAt, jobAt, nodeAt, poolAt, toldAt, messageAt}
-use Rattle.elements.specs.Elements.{bondOk, jobOk, nodeOk, toldOk, cellOk, slotOk}
+use Rattle.elements.specs.Elements.{bondOk, jobOk, nodeOk, toldOk, cellOk}
+use Rattle.slots.specs.Slots.{slotOk}
 
 -- "machine count, 2 to 16"; "entry count n, 0 to 64"; "up to 128 messages in flight"
 abbrev pub sizesOk : Table → Bool

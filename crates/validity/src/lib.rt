@@ -1,10 +1,11 @@
-// Refusal 9: whether a table is in order. One function for each array, over the tests of one element in the crate `elements`.
+// Refusal 9: whether a table is in order. One function for each array, over the tests of one element in the crates `elements` and `slots`.
 ghost use mathlib.Core.Path.{_≡_};
 ghost use Prim.Native.Nat.{_+_, _*_, _<_};
 ghost use lib.ListN.{getD};
 ghost use Rattle.lists.specs.Scan.{all};
 ghost use Rattle.table.specs.Views.{noMachine};
-ghost use Rattle.elements.specs.Elements.{toldOk, cellOk, slotOk};
+ghost use Rattle.elements.specs.Elements.{toldOk, cellOk};
+ghost use Rattle.slots.specs.Slots.{slotOk};
 ghost use Rattle.validity.specs.Validity.{sizesOk, bound, bondsOk, jobsOk, nodesOk, poolsOk, messagesOk, rootOk, toldsOk, tableOk};
 use table::Machine;
 use table::Message;
@@ -136,7 +137,7 @@ fn slot_ok(
     ensures { λ r. ⌜ r ≡ slotOk machines entries b used i (getD nodes (m .to) noMachine .alive) m ⌝ }
 {
     let alive = alive_at(nodes, m.to);
-    elements::slot_ok(machines, entries, b, used, i, alive, m)
+    slots::slot_ok(machines, entries, b, used, i, alive, m)
 }
 
 fn messages_ok(t: Table, b: u8) -> bool

@@ -1,4 +1,4 @@
--- `events::admit` meets its contract. One refusal, then the equation of `open`.
+-- `events::admit` meets its contract. One refusal, then the equation of `open_on_root`.
 -- Assumes nothing.
 use borrow.Author.Needs.{needs}
 use Rattle.lists.proofs.Rules.{flags}
@@ -20,12 +20,12 @@ returns : tie.Need-returns
 unfolding admitOf parts
 returns c = search flags
 
-open-requires : tie.Need-open-requires
-open-requires c κs = search needs
+open-on-root-requires : tie.Need-open-on-root-requires
+open-on-root-requires c κs = search needs
 
 returns-2 : tie.Need-returns-2
 unfolding admitOf admitted parts
-returns-2 c = rw (c .open .ensures) (search flags)
+returns-2 c = rw (c .open-on-root .ensures) (search flags)
 
 pub admit-spec : {M : Type 1} → statement M
-admit-spec = tie.close (tie.spec mul-job element-copy-out-job refuse-requires returns open-requires returns-2)
+admit-spec = tie.close (tie.spec mul-job element-copy-out-job refuse-requires returns open-on-root-requires returns-2)

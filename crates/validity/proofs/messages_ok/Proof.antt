@@ -8,7 +8,7 @@ use mathlib.Core.Bool.{true}
 use Rattle.lists.specs.Scan.{all}
 use Rattle.lists.proofs.Scans.{all-none, all-more, all-fail, all-end}
 use Rattle.table.specs.Views.{parts, nodeAt, messageAt}
-use Rattle.elements.specs.Elements.{slotOk}
+use Rattle.slots.specs.Slots.{slotOk}
 use Rattle.validity.specs.Validity.{messagesOk}
 use Rattle.validity.proofs.messages_ok.Statement.{statement}
 use Rattle.validity.proofs.messages_ok.Tie as tie

@@ -1,0 +1,26 @@
+-- What the code of the handlers and of the events asks of a message and of a table. A table that passes check 9 gives all of it.
+use Prim.Native.Nat.{ℕ, _<_, _≤_}
+use Rattle.table.specs.declared.Message.{Message}
+use Rattle.table.specs.declared.Table.{Table}
+use Rattle.table.specs.Views.{jobAt, nodeAt, messageAt}
+
+-- a slot is free
+pub record Room (t : Table) : Type 0 where
+  pub free : t .«in_flight» < 128
+
+-- a message's numbers are within the arrays
+pub record Within (m : Message) : Type 0 where
+  pub job : m .job < 64
+  pub from : m .from < 16
+  pub to : m .to < 16
+  pub thief : m .thief < 16
+
+-- counts and numbers are within the arrays, and a replica number can still rise
+pub record Ready (t : Table) : Type 0 where
+  pub machines : t .machines ≤ 16
+  pub entries : t .entries ≤ 64
+  pub flight : t .«in_flight» ≤ 128
+  pub messages : (i : ℕ) → i < t .«in_flight» → Within (messageAt t i)
+  pub reserved : (m : ℕ) → m < 16 → nodeAt t m .«reserved_job» < 64
+  pub running : (m : ℕ) → m < 16 → nodeAt t m .«running_job» < 64
+  pub replicas : (j : ℕ) → j < 64 → jobAt t j .replica < 255

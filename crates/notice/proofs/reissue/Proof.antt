@@ -1,0 +1,80 @@
+-- `notice::reissue` meets its contract. The loop keeps: the jobs before j have had their turn.
+-- Assumes nothing.
+use Prim.Native.Nat.{_-_, _≤_}
+use mathlib.Core.Path.{_∙_, _≡_, sym}
+use native.Mathlib.Omega.{arith}
+use Rattle.lists.proofs.Rules.{tests}
+use Rattle.lists.proofs.Scans.{up-end, up-more, up-none}
+use Rattle.lists.specs.Scan.{upTo}
+use Rattle.table.specs.Views.{jobAt, parts}
+use Rattle.notice.proofs.Parts.{reissue-kept, reissue-lost}
+use Rattle.notice.specs.Notice.{reissue, reissueOne}
+use Rattle.notice.proofs.reissue.Statement.{statement}
+use Rattle.notice.proofs.reissue.Tie as tie
+
+abbrev Inv-loop : tie.InvT-loop
+Inv-loop b t u₀ j₀ u j = (j ≤ 64) × (u ≡ upTo (λ k v. reissueOne (jobAt t k) b k v) j t)
+
+abbrev μ-loop : tie.MeasureT-loop
+μ-loop b t u₀ j₀ u j = 64 - j
+
+loop-holds : tie.Need-loop-holds Inv-loop μ-loop
+loop-holds c = (search tests, up-none _ _)
+
+mul-v : tie.Need-mul-v Inv-loop μ-loop
+mul-v c = search tests
+
+element-copy-out-v : tie.Need-element-copy-out-v Inv-loop μ-loop
+element-copy-out-v c = search tests
+
+add-j : tie.Need-add-j Inv-loop μ-loop
+add-j c = search tests
+
+lost-requires : tie.Need-lost-requires Inv-loop μ-loop
+lost-requires c κs = search tests
+
+add-open-on-root : tie.Need-add-open-on-root Inv-loop μ-loop
+unfolding parts
+add-open-on-root c =
+    let h = c .before .before .before .before .before .before .pre (c .before .before .before .before .before .loop .j) (search tests) in
+    omega arith
+
+open-on-root-requires : tie.Need-open-on-root-requires Inv-loop μ-loop
+open-on-root-requires c κs = search tests
+
+loop-less : tie.Need-loop-less Inv-loop μ-loop
+loop-less c = search tests
+
+loop-again : tie.Need-loop-again Inv-loop μ-loop
+unfolding parts
+loop-again c = (search tests, c .open-on-root .ensures ∙ reissue-lost _ _ _ _ (sym (c .before .before .before .lost .ensures) ∙ c .before .before .if1 .taken) ∙ up-more _ _ _ _ (c .before .before .before .before .before .before .loop .inv .1))
+
+loop-less-2 : tie.Need-loop-less-2 Inv-loop μ-loop
+loop-less-2 c = search tests
+
+loop-again-2 : tie.Need-loop-again-2 Inv-loop μ-loop
+unfolding parts
+loop-again-2 c = (search tests, reissue-kept _ _ _ _ (sym (c .before .lost .ensures) ∙ c .if1 .left) ∙ up-more _ _ _ _ (c .before .before .before .before .loop .inv .1))
+
+returns : tie.Need-returns Inv-loop μ-loop
+unfolding reissue
+returns c = up-end _ _ 64 _ _ (search tests) (search tests) (c .before .loop .inv .1)
+
+pub reissue-spec : {M : Type 1} → statement M
+reissue-spec =
+    tie.close
+    (tie.spec
+    Inv-loop
+    μ-loop
+    loop-holds
+    mul-v
+    element-copy-out-v
+    add-j
+    lost-requires
+    add-open-on-root
+    open-on-root-requires
+    loop-less
+    loop-again
+    loop-less-2
+    loop-again-2
+    returns)

@@ -1,0 +1,122 @@
+// Event 7: a machine is told that another is dead. The four things that every machine then does, and what the root does besides.
+ghost use mathlib.Core.Path.{_≡_};
+ghost use Prim.Native.Nat.{ℕ, _<_, _≤_};
+ghost use Rattle.table.specs.Views.{jobAt, nodeAt};
+ghost use Rattle.messages.specs.Needs.{Ready};
+ghost use Rattle.notice.specs.Notice.{informed, unwaited, reclaimed, quieted, lost, reissue, noticed, noticeOf};
+use table::Answer;
+use table::Job;
+use table::Table;
+
+// a is told that b is dead, and undelivered messages from b to a are dropped.
+fn informed(t: Table, a: u8, b: u8) -> Table
+    requires { ⌜ (a < 16) × (b < 16) × (t .«in_flight» ≤ 128) ⌝ }
+    ensures { λ r. ⌜ r ≡ informed t a b ⌝ }
+{
+    let mut u = messages::drop_from(t, b, a);
+    u.told[(a as usize) * 16 + (b as usize)] = 1;
+    u
+}
+
+// If a waits on b, it stops waiting.
+fn unwaited(t: Table, a: u8, b: u8) -> Table
+    requires { ⌜ (a < 16) × (b < 16) ⌝ }
+    ensures { λ r. ⌜ r ≡ unwaited t a b ⌝ }
+{
+    let i = a as usize;
+    let mut n = t.nodes[i];
+    if n.waits != b + 1 {
+        return t;
+    }
+    n.waits = 0;
+    let mut u = t;
+    u.nodes[i] = n;
+    u
+}
+
+// If its reserved copy is for thief b, the copy returns to the pool.
+fn reclaimed(t: Table, a: u8, b: u8) -> Table
+    requires { ⌜ (a < 16) × (nodeAt t a .«reserved_job» < 64) ⌝ }
+    ensures { λ r. ⌜ r ≡ reclaimed t a b ⌝ }
+{
+    let i = a as usize;
+    let n = t.nodes[i];
+    if (n.reserved_replica != 0) & (n.reserved_thief == b) {
+        return pools::returned(t, i);
+    }
+    t
+}
+
+// What every machine does.
+fn quieted(t: Table, a: u8, b: u8) -> Table
+    requires { ⌜ (a < 16) × (b < 16) × (t .«in_flight» ≤ 128) ⌝ }
+    requires { ⌜ nodeAt t a .«reserved_job» < 64 ⌝ }
+    ensures { λ r. ⌜ r ≡ quieted t a b ⌝ }
+{
+    let u = informed(t, a, b);
+    let v = reclaimed(u, a, b);
+    unwaited(v, a, b)
+}
+
+// Whether a job is open and on b, or moving from or to b.
+fn lost(v: Job, b: u8) -> bool
+    ensures { λ r. ⌜ r ≡ lost v b ⌝ }
+{
+    (v.state == 1) & ((v.holder == b) | (v.moving == 1) & (v.thief == b))
+}
+
+// Each such job gets the next replica number, is on 0, and enters the root's pool.
+fn reissue(t: Table, b: u8) -> Table
+    requires { ⌜ ((j : ℕ) → j < 64 → jobAt t j .replica < 255) ⌝ }
+    ensures { λ r. ⌜ r ≡ reissue t b ⌝ }
+{
+    let mut u = t;
+    let mut j: usize = 0;
+    while j < 64 {
+        let k = j;
+        let v = t.jobs[k];
+        j += 1;
+        if lost(v, b) {
+            u = pools::open_on_root(u, k, v.replica + 1);
+        }
+    }
+    u
+}
+
+// The table after an accepted notice.
+fn noticed(t: Table, a: u8, b: u8) -> Table
+    requires { ⌜ Ready t ⌝ }
+    requires { ⌜ (a < t .machines) × (b < t .machines) ⌝ }
+    ensures { λ r. ⌜ r ≡ noticed t a b ⌝ }
+{
+    let u = quieted(t, a, b);
+    if a == 0 {
+        return reissue(u, b);
+    }
+    u
+}
+
+// Event 7.
+pub fn notice(t: Table, a: u8, b: u8) -> Answer
+    requires { ⌜ Ready t ⌝ }
+    requires { ⌜ (a < t .machines) × (b < t .machines) ⌝ }
+    ensures { λ r. ⌜ r ≡ noticeOf t a b ⌝ }
+{
+    let n = t.nodes[a as usize];
+    if n.alive != 1 {
+        return table::refuse(12, t);
+    }
+    let d = t.nodes[b as usize];
+    if d.alive == 1 {
+        return table::refuse(21, t);
+    }
+    let told = pools::told_at(t, a as usize, b as usize);
+    if told != 0 {
+        return table::refuse(22, t);
+    }
+    let u = noticed(t, a, b);
+    Answer {
+        number: 0,
+        table: u,
+    }
+}

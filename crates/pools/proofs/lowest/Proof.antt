@@ -1,0 +1,66 @@
+-- `pools::lowest` meets its contract. The loop keeps: no job passed so far is in the pool.
+-- Assumes nothing.
+use Prim.Native.Nat.{_-_, _≤_}
+use borrow.Author.Tests.{eq-eqb, ne-eqb}
+use lib.Dec.{eqb}
+use mathlib.Core.Bool.{not}
+use mathlib.Core.Path.{_≡_, ap, sym}
+use Rattle.lists.proofs.Rules.{tests}
+use Rattle.lists.proofs.Scans.{least-end, least-found, least-more, least-none}
+use Rattle.lists.specs.Scan.{least}
+use Rattle.table.specs.Messages.{lowest}
+use Rattle.table.specs.Views.{parts, poolAt}
+use Rattle.pools.proofs.lowest.Statement.{statement}
+use Rattle.pools.proofs.lowest.Tie as tie
+
+abbrev Inv-loop : tie.InvT-loop
+Inv-loop m t base j₀ j = (j ≤ 64) × (least (λ k. not (eqb (poolAt t m k) 0)) j ≡ j)
+
+abbrev μ-loop : tie.MeasureT-loop
+μ-loop m t base j₀ j = 64 - j
+
+mul-base : tie.Need-mul-base Inv-loop μ-loop
+mul-base c = search tests
+
+loop-holds : tie.Need-loop-holds Inv-loop μ-loop
+loop-holds c = (search tests, least-none _)
+
+add-x : tie.Need-add-x Inv-loop μ-loop
+add-x c = search tests
+
+element-copy-out-x : tie.Need-element-copy-out-x Inv-loop μ-loop
+element-copy-out-x c = search tests
+
+returns : tie.Need-returns Inv-loop μ-loop
+unfolding lowest parts
+returns c = sym (least-found _ _ _ (search tests) (search tests) (ap not (ne-eqb _ _ (c .if1 .taken))))
+
+add-j : tie.Need-add-j Inv-loop μ-loop
+add-j c = search tests
+
+loop-less : tie.Need-loop-less Inv-loop μ-loop
+loop-less c = search tests
+
+loop-again : tie.Need-loop-again Inv-loop μ-loop
+unfolding parts
+loop-again c = (search tests, least-more _ _ (search tests) (ap not (eq-eqb _ _ (c .if1 .left))))
+
+returns-2 : tie.Need-returns-2 Inv-loop μ-loop
+unfolding lowest parts
+returns-2 c = least-end _ _ _ (search tests) (search tests) (search tests)
+
+pub lowest-spec : {M : Type 1} → statement M
+lowest-spec =
+    tie.close
+    (tie.spec
+    Inv-loop
+    μ-loop
+    mul-base
+    loop-holds
+    add-x
+    element-copy-out-x
+    returns
+    add-j
+    loop-less
+    loop-again
+    returns-2)

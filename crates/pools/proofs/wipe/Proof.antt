@@ -1,0 +1,58 @@
+-- `pools::wipe` meets its contract. The loop keeps: the pool is cleared up to job j.
+-- Assumes nothing.
+use Prim.Native.Nat.{_-_, _≤_}
+use mathlib.Core.Path.{_≡_}
+use Rattle.lists.proofs.Rules.{tests}
+use Rattle.lists.proofs.Scans.{up-end, up-more, up-none}
+use Rattle.lists.specs.Scan.{upTo}
+use Rattle.table.specs.Messages.{wipe}
+use Rattle.table.specs.Views.{parts, withPool}
+use Rattle.pools.proofs.wipe.Statement.{statement}
+use Rattle.pools.proofs.wipe.Tie as tie
+
+abbrev Inv-loop : tie.InvT-loop
+Inv-loop m base u₀ j₀ u j = (j ≤ 64) × (u ≡ upTo (λ k v. withPool v m k 0) j u₀)
+
+abbrev μ-loop : tie.MeasureT-loop
+μ-loop m base u₀ j₀ u j = 64 - j
+
+mul-base : tie.Need-mul-base Inv-loop μ-loop
+mul-base c = search tests
+
+loop-holds : tie.Need-loop-holds Inv-loop μ-loop
+loop-holds c = (search tests, up-none _ _)
+
+add-u : tie.Need-add-u Inv-loop μ-loop
+add-u c = search tests
+
+element-write-u : tie.Need-element-write-u Inv-loop μ-loop
+element-write-u c = search tests
+
+add-j : tie.Need-add-j Inv-loop μ-loop
+add-j c = search tests
+
+loop-less : tie.Need-loop-less Inv-loop μ-loop
+loop-less c = search tests
+
+loop-again : tie.Need-loop-again Inv-loop μ-loop
+unfolding parts
+loop-again c = (search tests, up-more (λ k v. withPool v (c .before .before .args .m) k 0) _ _ _ (c .before .loop .inv .1))
+
+returns : tie.Need-returns Inv-loop μ-loop
+unfolding wipe
+returns c = up-end _ _ 64 _ _ (search tests) (search tests) (c .before .loop .inv .1)
+
+pub wipe-spec : {M : Type 1} → statement M
+wipe-spec =
+    tie.close
+    (tie.spec
+    Inv-loop
+    μ-loop
+    mul-base
+    loop-holds
+    add-u
+    element-write-u
+    add-j
+    loop-less
+    loop-again
+    returns)

@@ -1,0 +1,63 @@
+// Event 2 on a table that passed check 9, for machine numbers in range: its refusals in document 01's order, and the table that it makes.
+ghost use mathlib.Core.Path.{_≡_};
+ghost use Prim.Native.Nat.{_<_};
+ghost use Rattle.messages.specs.Needs.{Ready};
+ghost use Rattle.steal.specs.Steal.{stolen, stealOf};
+use table::Answer;
+use table::Message;
+use table::Table;
+
+// Thief a sends FISH to b and waits on b.
+fn stolen(t: Table, a: u8, b: u8) -> Table
+    requires { ⌜ (a < 16) × (b < 16) ⌝ }
+    requires { ⌜ t .«in_flight» < 128 ⌝ }
+    ensures { λ r. ⌜ r ≡ stolen t a b ⌝ }
+{
+    let mut n = t.nodes[a as usize];
+    n.waits = b + 1;
+    let mut u = t;
+    u.nodes[a as usize] = n;
+    messages::send(
+        u,
+        Message {
+            kind: table::FISH,
+            from: a,
+            to: b,
+            job: 0,
+            replica: 0,
+            thief: 0,
+            price: 0,
+        },
+    )
+}
+
+// Event 2.
+pub fn steal(t: Table, a: u8, b: u8) -> Answer
+    requires { ⌜ Ready t ⌝ }
+    requires { ⌜ (a < t .machines) × (b < t .machines) ⌝ }
+    ensures { λ r. ⌜ r ≡ stealOf t a b ⌝ }
+{
+    let n = t.nodes[a as usize];
+    if n.alive != 1 {
+        return table::refuse(12, t);
+    }
+    if a == b {
+        return table::refuse(14, t);
+    }
+    if n.waits != 0 {
+        return table::refuse(14, t);
+    }
+    let told = pools::told_at(t, a as usize, b as usize);
+    if told != 0 {
+        return table::refuse(14, t);
+    }
+    let used = t.in_flight;
+    if 128 <= used {
+        return table::refuse(16, t);
+    }
+    let sent = stolen(t, a, b);
+    Answer {
+        number: 0,
+        table: sent,
+    }
+}

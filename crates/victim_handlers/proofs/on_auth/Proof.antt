@@ -1,0 +1,49 @@
+-- `victim_handlers::on_auth` meets its contract. The match is the test of the definition; what is sent goes by the equation of `send`.
+-- Assumes nothing.
+use borrow.Author.Needs.{needs}
+use Rattle.lists.proofs.Rules.{tests}
+use Rattle.table.specs.Parts.{message}
+use Rattle.table.specs.Views.{parts}
+use Rattle.victim_handlers.specs.VictimHandlers.{onAuth}
+use Rattle.victim_handlers.proofs.on_auth.Statement.{statement}
+use Rattle.victim_handlers.proofs.on_auth.Tie as tie
+
+cast-b : tie.Need-cast-b
+cast-b c = search needs
+
+mul-n : tie.Need-mul-n
+mul-n c = search needs
+
+element-copy-out-n : tie.Need-element-copy-out-n
+element-copy-out-n c = search needs
+
+reserves-requires : tie.Need-reserves-requires
+reserves-requires c κs = search needs
+
+released-requires : tie.Need-released-requires
+released-requires c κs = search needs
+
+send-requires : tie.Need-send-requires
+unfolding parts
+send-requires c κs = rw (c .released .ensures) (search tests)
+
+returns : tie.Need-returns
+unfolding onAuth message parts
+returns c = rw (c .send .ensures, c .before .released .ensures, ← c .before .before .before .reserves .ensures, c .before .before .if1 .taken)
+
+returns-2 : tie.Need-returns-2
+unfolding onAuth parts
+returns-2 c = rw (← c .before .reserves .ensures, c .if1 .left)
+
+pub on-auth-spec : {M : Type 1} → statement M
+on-auth-spec =
+    tie.close
+    (tie.spec
+    cast-b
+    mul-n
+    element-copy-out-n
+    reserves-requires
+    released-requires
+    send-requires
+    returns
+    returns-2)

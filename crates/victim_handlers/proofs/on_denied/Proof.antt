@@ -1,0 +1,54 @@
+-- `victim_handlers::on_denied` meets its contract. The match says which job is reserved, so that its number is within the pool.
+-- Assumes nothing.
+use borrow.Author.Needs.{needs}
+use mathlib.Core.Path.{_∙_, sym}
+use Rattle.lists.proofs.Rules.{tests}
+use Rattle.table.specs.Parts.{returned}
+use Rattle.table.specs.Views.{enter, parts}
+use Rattle.victim_handlers.proofs.Reserved.{reserves-job}
+use Rattle.victim_handlers.specs.VictimHandlers.{onDenied}
+use Rattle.victim_handlers.proofs.on_denied.Statement.{statement}
+use Rattle.victim_handlers.proofs.on_denied.Tie as tie
+
+cast-b : tie.Need-cast-b
+cast-b c = search needs
+
+mul-n : tie.Need-mul-n
+mul-n c = search needs
+
+element-copy-out-n : tie.Need-element-copy-out-n
+element-copy-out-n c = search needs
+
+reserves-requires : tie.Need-reserves-requires
+reserves-requires c κs = search needs
+
+returned-requires : tie.Need-returned-requires
+unfolding parts
+returned-requires c κs =
+    let e = reserves-job _ _ _ _ (sym (c .before .reserves .ensures) ∙ c .if1 .taken) in
+    (search tests, rw e (search tests))
+
+no-work-requires : tie.Need-no-work-requires
+unfolding returned enter parts
+no-work-requires c κs = (record { free = rw (c .returned .ensures) (search tests) }, search tests)
+
+returns : tie.Need-returns
+unfolding onDenied parts
+returns c = rw (c .no-work .ensures, c .before .returned .ensures, ← c .before .before .before .reserves .ensures, c .before .before .if1 .taken)
+
+returns-2 : tie.Need-returns-2
+unfolding onDenied parts
+returns-2 c = rw (← c .before .reserves .ensures, c .if1 .left)
+
+pub on-denied-spec : {M : Type 1} → statement M
+on-denied-spec =
+    tie.close
+    (tie.spec
+    cast-b
+    mul-n
+    element-copy-out-n
+    reserves-requires
+    returned-requires
+    no-work-requires
+    returns
+    returns-2)

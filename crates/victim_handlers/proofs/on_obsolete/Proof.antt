@@ -1,0 +1,48 @@
+-- `victim_handlers::on_obsolete` meets its contract. The match is the test of the definition.
+-- Assumes nothing.
+use borrow.Author.Needs.{needs}
+use Rattle.lists.proofs.Rules.{tests}
+use Rattle.table.specs.Views.{parts}
+use Rattle.victim_handlers.specs.VictimHandlers.{onObsolete}
+use Rattle.victim_handlers.proofs.on_obsolete.Statement.{statement}
+use Rattle.victim_handlers.proofs.on_obsolete.Tie as tie
+
+cast-b : tie.Need-cast-b
+cast-b c = search needs
+
+mul-n : tie.Need-mul-n
+mul-n c = search needs
+
+element-copy-out-n : tie.Need-element-copy-out-n
+element-copy-out-n c = search needs
+
+reserves-requires : tie.Need-reserves-requires
+reserves-requires c κs = search needs
+
+released-requires : tie.Need-released-requires
+released-requires c κs = search needs
+
+no-work-requires : tie.Need-no-work-requires
+unfolding parts
+no-work-requires c κs = (record { free = rw (c .released .ensures) (search tests) }, search tests)
+
+returns : tie.Need-returns
+unfolding onObsolete parts
+returns c = rw (c .no-work .ensures, c .before .released .ensures, ← c .before .before .before .reserves .ensures, c .before .before .if1 .taken)
+
+returns-2 : tie.Need-returns-2
+unfolding onObsolete parts
+returns-2 c = rw (← c .before .reserves .ensures, c .if1 .left)
+
+pub on-obsolete-spec : {M : Type 1} → statement M
+on-obsolete-spec =
+    tie.close
+    (tie.spec
+    cast-b
+    mul-n
+    element-copy-out-n
+    reserves-requires
+    released-requires
+    no-work-requires
+    returns
+    returns-2)

@@ -1,0 +1,101 @@
+// Events 4 and 5, the work itself, on a table that passed check 9, for machine and entry numbers in range: Start and Done.
+// An event is a chain of its refusals in document 01's order, and a function that makes the new table.
+ghost use mathlib.Core.Path.{_≡_};
+ghost use Prim.Native.Nat.{_<_};
+ghost use Rattle.table.specs.Views.{nodeAt};
+ghost use Rattle.messages.specs.Needs.{Ready};
+ghost use Rattle.work.specs.Work.{started, startOf, finished, doneOf};
+use table::Answer;
+use table::Message;
+use table::Table;
+
+// Machine a moves job b from its pool to running.
+fn started(t: Table, a: u8, b: u8) -> Table
+    requires { ⌜ (a < 16) × (b < 64) ⌝ }
+    ensures { λ r. ⌜ r ≡ started t a b ⌝ }
+{
+    let i = (a as usize) * 64 + (b as usize);
+    let mut n = t.nodes[a as usize];
+    n.running_job = b;
+    n.running_replica = t.pools[i];
+    let mut u = t;
+    u.pools[i] = 0;
+    u.nodes[a as usize] = n;
+    u
+}
+
+// Event 4.
+pub fn start(t: Table, a: u8, b: u8) -> Answer
+    requires { ⌜ Ready t ⌝ }
+    requires { ⌜ (a < t .machines) × (b < t .entries) ⌝ }
+    ensures { λ r. ⌜ r ≡ startOf t a b ⌝ }
+{
+    let n = t.nodes[a as usize];
+    if n.alive != 1 {
+        return table::refuse(12, t);
+    }
+    if n.running_replica != 0 {
+        return table::refuse(17, t);
+    }
+    let r = t.pools[(a as usize) * 64 + (b as usize)];
+    if r == 0 {
+        return table::refuse(18, t);
+    }
+    let u = started(t, a, b);
+    Answer {
+        number: 0,
+        table: u,
+    }
+}
+
+// The running copy of a goes and RESULT with its price is sent to the root.
+fn finished(t: Table, a: u8) -> Table
+    requires { ⌜ (a < 16) × (nodeAt t a .«running_job» < 64) ⌝ }
+    requires { ⌜ t .«in_flight» < 128 ⌝ }
+    ensures { λ r. ⌜ r ≡ finished t a ⌝ }
+{
+    let mut n = t.nodes[a as usize];
+    let j = n.running_job;
+    let r = n.running_replica;
+    let bond = t.bonds[j as usize];
+    let bits = pricer::price_bits(bond);
+    n.running_job = 0;
+    n.running_replica = 0;
+    let mut u = t;
+    u.nodes[a as usize] = n;
+    messages::send(
+        u,
+        Message {
+            kind: table::RESULT,
+            from: a,
+            to: 0,
+            job: j,
+            replica: r,
+            thief: 0,
+            price: bits,
+        },
+    )
+}
+
+// Event 5.
+pub fn done(t: Table, a: u8) -> Answer
+    requires { ⌜ Ready t ⌝ }
+    requires { ⌜ a < t .machines ⌝ }
+    ensures { λ r. ⌜ r ≡ doneOf t a ⌝ }
+{
+    let n = t.nodes[a as usize];
+    if n.alive != 1 {
+        return table::refuse(12, t);
+    }
+    if n.running_replica == 0 {
+        return table::refuse(19, t);
+    }
+    if 128 <= t.in_flight {
+        return table::refuse(16, t);
+    }
+    let u = finished(t, a);
+    Answer {
+        number: 0,
+        table: u,
+    }
+}

@@ -1,0 +1,402 @@
+#!/usr/bin/python3
+"""Draws a run as an SVG picture.
+
+    python3 tools/picture.py FOLDER out.svg [--title TEXT]
+
+The folder has the book.bin and events.bin of the run. It needs Python's standard library only.
+
+Time goes down, a row for each event; a machine is a lane, and the line in it is the machine's life. Left of the line stand
+the messages that come to the machine, each at the end of its arrow; right of it are the copies of the bonds that it holds,
+each a bar with the job's number. What happened is told by model.py (by way of history.py), which is document 01 in Python.
+"""
+import argparse
+import pathlib
+
+import book as books
+import desk
+import history as runs
+import model
+from svg import cross, curve, cut, line, path, pill_width, rect, tag, text, tip, triangle, width_of, Pill
+
+INK, SOFT, FAINT, PAPER, LANE = "#23292f", "#66707a", "#d5d8d4", "#fbfbf9", "#f1f2ee"
+RED, RED_TINT, DARK, WAITING = "#b3261e", "#fbd5d1", "#343a40", "#d08a00"
+FONT = "'DejaVu Sans', Verdana, Helvetica, Arial, sans-serif"
+KINDS = {
+    "FISH": "#1f6fb2", "REQ": "#7b4fa3", "AUTH": "#2e7d4f", "DENIED": "#c2540a", "OBSOLETE": "#85543f",
+    "SCHEDULE": "#007a87", "ACK": "#54708a", "NOWORK": "#7d7d7d", "RESULT": "#9a7400",
+}
+STATES = {  # fill and edge of a bar
+    runs.POOL: ("#d3e2f4", "#8fb0d6"), runs.RESERVED: ("#fad58a", "#d39a22"), runs.RUNNING: ("#86cba3", "#2f855a"),
+}
+FATES = {
+    runs.DELIVERED: "delivered", runs.DROPPED: "dropped", runs.LOST: "lost, for it goes to a dead machine",
+    runs.IN_FLIGHT: "in flight at the end",
+}
+TICK, TIMES, ARROW = "\u2713", "\u00d7", "\u2192"
+
+MARGIN = 28
+LEAST = 1120  # width of the picture
+HEAD = 26  # height of the names of the lanes
+LINE = 18  # height of a row with one pill
+HEADS = 50  # rows after which the names of the lanes stand again
+PLACE, EVENT, NOTE = 38, 112, 268  # widths at the left: place, event, note
+BOND = 17  # height of a line of the list of bonds
+
+
+# The layout: where lanes, rows and pills are.
+
+
+def flight_pill(flight):
+    """The label of a message at the end of its way."""
+    m, words = flight.message, runs.label(flight.message)
+    about = f"{words} from {m.sender} to {m.to}: sent at event {flight.start + 1}, {FATES[flight.fate]}"
+    if flight.fate in (runs.DELIVERED, runs.DROPPED):
+        about += f" at event {flight.end + 1}" + (" without effect" if flight.idle else "")
+    if flight.priced:
+        words += " " + TICK
+    if flight.fate in (runs.DROPPED, runs.LOST):
+        words = TIMES + " " + words
+    filled = flight.fate == runs.DELIVERED and not flight.idle
+    return Pill(words, KINDS[m.kind], filled, flight.fate != runs.DELIVERED, about)
+
+
+def pack(stays):
+    """How many columns the stays need, and pairs of a column and a stay: each as far left as there is room."""
+    ends, placed = [], []
+    for stay in stays:  # in the order of their starts
+        column = next((c for c, end in enumerate(ends) if end <= stay[0].start), len(ends))
+        ends[column:column + 1] = [stay[-1].end]
+        placed.append((column, stay))
+    return len(ends), placed
+
+
+class Lane:
+    """A machine's lane: its edges, its line, the columns of its bars."""
+
+    def __init__(self, machine, x, stays, pills):
+        labels = [runs.copy_label(stay[0].job, stay[0].replica) for stay in stays]
+        columns, self.stays = pack(stays)
+        self.machine, self.x = machine, x
+        self.line = x + 18 + max([66, *(pill_width(pill.words) for pill in pills)]) + 5
+        self.bar = max([16, *(width_of(words, 9) + 4 for words in labels)])
+        self.end = max(self.bar_x(columns), self.line + 46) + 10
+
+    def move(self, by, room):
+        """Further right, with more room at its end."""
+        self.x, self.line, self.end = self.x + by, self.line + by, self.end + by + room
+
+    def bar_x(self, column):
+        return self.line + 9 + column * (self.bar + 2)
+
+
+class Layout:
+    """The places of all things. A row is as high as the pills that stand in it in one lane."""
+
+    def __init__(self, history):
+        self.history = history
+        self.pills = {}  # row and machine to the pills, from top to bottom
+        self.flights = []  # pairs of a flight and its pill
+        self.gather()
+        self.place_lanes()
+        self.right = self.lanes[-1].end
+        self.width = self.right + MARGIN
+
+    def gather(self):
+        history = self.history
+        for machine, row in history.deaths.items():
+            self.put(row, machine, Pill("dies", DARK, about=f"machine {machine} dies at event {row + 1}"))
+        for row, machine, dead in history.notices:
+            self.put(row, machine, Pill(f"told: {dead} dead", DARK, False, about=f"machine {machine} is told that {dead} is dead"))
+        for row, event in enumerate(history.rows):
+            if event.number and event.machine is not None:
+                self.put(row, event.machine, Pill(f"refused {event.number}", RED, about=event.note))
+        for flight in history.flights:
+            self.flights.append((flight, flight_pill(flight)))
+            self.put(flight.end, flight.message.to, self.flights[-1][1])
+
+    def put(self, row, machine, pill):
+        self.pills.setdefault((row, machine), []).append(pill)
+
+    def place_lanes(self):
+        self.lanes, x = [], MARGIN + PLACE + EVENT + NOTE
+        for machine in range(len(self.history.table.machines)):
+            stays = [stay for stay in runs.stays(self.history.copies) if stay[0].machine == machine]
+            pills = [pill for (_, to), found in self.pills.items() if to == machine for pill in found]
+            self.lanes.append(Lane(machine, x, stays, pills))
+            x = self.lanes[-1].end
+        room = max(0, LEAST - MARGIN - x) / len(self.lanes)
+        for lane in self.lanes:
+            lane.move(room * lane.machine, room)
+
+    def place_rows(self, top):
+        """The top of each row and of the end; a row's pills stand below one another."""
+        self.tops, self.heads, y = [], [top], top + HEAD
+        last = len(self.history.rows)
+        for row in range(last + 1):
+            if row % HEADS == 0 and 0 < row <= last - 5:
+                self.heads.append(y + LINE / 2)  # below the labels of bars that begin in the row above
+                y += LINE / 2 + HEAD
+            self.tops.append(y)
+            here = [self.pills.get((row, lane.machine), []) for lane in self.lanes]
+            for pills in here:
+                for at, pill in enumerate(pills):
+                    pill.y = y + LINE / 2 + at * LINE
+            y += LINE * max(0 if row == last else 1, *map(len, here))
+        self.bottom = y + 6
+
+    def y(self, row):
+        """The middle of a row's first line; the bottom for what lasts."""
+        return self.tops[row] + LINE / 2 if row < len(self.history.rows) else self.bottom
+
+
+# The drawing, from what lies below to what lies above.
+
+
+def ground(layout):
+    """Lanes, rows, and the shade of refused events and of dead machines."""
+    for lane in layout.lanes:
+        yield rect(lane.x, layout.heads[0], lane.end - lane.x, layout.bottom - layout.heads[0], LANE if lane.machine % 2 == 0 else "#ffffff")
+    for machine, row in layout.history.deaths.items():
+        lane = layout.lanes[machine]
+        yield rect(lane.x, layout.y(row), lane.end - lane.x, layout.bottom - layout.y(row), "url(#dead)")
+    for row, event in enumerate(layout.history.rows):
+        y = layout.tops[row]
+        if event.number:
+            yield rect(MARGIN, y, layout.right - MARGIN, LINE, RED_TINT, fill_opacity=0.7)
+        yield line(MARGIN, y, layout.right, y, FAINT, stroke_width=1 if row % 10 == 0 else 0.4)
+    for lane in layout.lanes:
+        yield line(lane.x, layout.heads[0], lane.x, layout.bottom, FAINT)
+    yield line(MARGIN, layout.bottom, layout.right, layout.bottom, SOFT)
+
+
+def heads(layout):
+    """The names of the lanes."""
+    for at, y in enumerate(layout.heads):
+        yield rect(MARGIN, y, layout.right - MARGIN, HEAD, DARK if at == 0 else "#6b747c")
+        yield text(MARGIN + PLACE, y + HEAD / 2, "event", 11, "#ffffff", font_weight="bold")
+        for lane in layout.lanes:
+            died = layout.history.deaths.get(lane.machine)
+            dead = died is not None and layout.tops[died] < y
+            name = f"machine {lane.machine}" + (" root" if lane.machine == model.ROOT else " dead" if dead else "")
+            yield text(lane.line, y + HEAD / 2, name, 11, "#b8bfc5" if dead else "#ffffff", font_weight="bold", text_anchor="middle")
+
+
+def lifelines(layout):
+    for lane in layout.lanes:
+        for y, until in zip(layout.heads, [*layout.heads[1:], layout.bottom]):
+            died = layout.history.deaths.get(lane.machine, len(layout.history.rows))
+            if layout.y(died) > y + HEAD:
+                yield line(lane.line, y + HEAD, lane.line, min(until, layout.y(died)), DARK, stroke_width=2.5)
+    for wait in layout.history.waits:
+        x, y, end = layout.lanes[wait.machine].line, layout.y(wait.start), layout.y(wait.end)
+        about = tip(f"machine {wait.machine} waits on {wait.victim} from event {wait.start + 1}")
+        yield line(x, y, x, end, PAPER, stroke_width=3)
+        yield line(x, y, x, end, WAITING, stroke_width=3, stroke_dasharray="2 2.5", content=about)
+    for machine, row in layout.history.deaths.items():
+        yield cross(layout.lanes[machine].line, layout.y(row), 5, DARK, 3)
+
+
+def bars(layout):
+    """The copies that a machine holds."""
+    for lane in layout.lanes:
+        for column, stay in lane.stays:
+            for copy in stay:
+                fill, edge = STATES[copy.state]
+                y, end = layout.y(copy.start) + 0.5, layout.y(copy.end) - 0.5
+                name = layout.history.table.entries[copy.job].identifier.decode("ascii")
+                about = tip(f"{name}, job {copy.job} replica {copy.replica}: {copy.state} on machine {copy.machine} from event {copy.start + 1}")
+                yield rect(lane.bar_x(column), y, lane.bar, end - y, fill, rx=3, stroke=edge, stroke_width=0.8, content=about)
+
+
+def bar_labels(layout):
+    """The job of each bar, where it begins and below the names of the lanes."""
+    for lane in layout.lanes:
+        for column, stay in lane.stays:
+            for copy in stay:
+                start, end, words = layout.y(copy.start), layout.y(copy.end), runs.copy_label(copy.job, copy.replica)
+                for y in [start, *(y + HEAD for y in layout.heads if start < y + 4 and y + HEAD + LINE < end)]:
+                    yield text(lane.bar_x(column) + lane.bar / 2, y + LINE / 2, words, 9, text_anchor="middle")
+
+
+def arrows(layout):
+    """The way of each message from its sending; a broken line where it does not arrive."""
+    loops = 0
+    for flight, pill in layout.flights:
+        sender, to = layout.lanes[flight.message.sender], layout.lanes[flight.message.to]
+        x, y = sender.line, layout.y(flight.start)
+        left = to.line - 5 - pill_width(pill.words)
+        dashes = None if flight.fate == runs.DELIVERED else "4 3"
+        if sender is to:
+            loops += 1
+            edge, end = to.x + 4 + 4 * (loops % 3), left - 1
+            d = f"M{x:.1f} {y:.1f}H{edge + 6:.1f}q-6 0 -6 6V{pill.y - 6:.1f}q0 6 6 6H{end:.1f}"
+        else:
+            end = left - 1 if sender.x < to.x else to.line + 3
+            d = curve(x, y, end, pill.y)
+        yield path(d, stroke=pill.colour, stroke_width=1.3, stroke_dasharray=dashes, stroke_opacity=0.85)
+        yield tag("circle", cx=x, cy=y, r=2.6, fill=pill.colour)
+        if flight.fate == runs.DELIVERED:
+            yield triangle(end, pill.y, 1 if end < to.line else -1, pill.colour)
+
+
+def pills(layout):
+    for (_, machine), found in layout.pills.items():
+        for pill in found:
+            yield pill.drawn(layout.lanes[machine].line - 5, PAPER)
+
+
+def log(layout):
+    """The list of events at the left, each with what it did."""
+    for row, event in enumerate(layout.history.rows):
+        y = layout.tops[row] + LINE / 2
+        colour = RED if event.number else INK
+        note = f"refused {event.number}: {event.note}" if event.number else event.note
+        yield text(MARGIN + PLACE - 8, y, str(row + 1), 9.5, RED if event.number else SOFT, text_anchor="end")
+        yield text(MARGIN + PLACE, y, event.text, 10.5, colour)
+        yield text(MARGIN + PLACE + EVENT, y, cut(note, 10, NOTE - 8), 10, RED if event.number else SOFT, content=tip(note))
+    if any(flight.fate == runs.IN_FLIGHT for flight in layout.history.flights):
+        yield text(MARGIN + PLACE, layout.tops[-1] + LINE / 2, "in flight at the end", 10.5, SOFT)
+
+
+# What stands above the lanes.
+
+
+def plural(count, word):
+    return f"{count} {word}" + ("" if count == 1 else "s")
+
+
+def summary(history):
+    refused = sum(row.number != 0 for row in history.rows)
+    states = [job.state for job in history.table.jobs]
+    fates = [flight.fate for flight in history.flights]
+    return "   \u00b7   ".join([
+        f"{plural(len(history.rows), 'event')}, {refused} refused",
+        f"{states.count(model.PRICED)} priced, {states.count(model.OPEN)} open, {states.count(model.NOT_ADMITTED)} not admitted",
+        f"{plural(len(history.deaths), 'death')}, {plural(len(history.notices), 'notice')}",
+        f"{plural(len(fates), 'message')}: {fates.count(runs.DELIVERED)} delivered, {fates.count(runs.DROPPED)} dropped, "
+        f"{fates.count(runs.LOST)} lost, {fates.count(runs.IN_FLIGHT)} in flight"])
+
+
+def bar_sign(state):
+    fill, edge = STATES[state]
+    return 18, lambda x, y: rect(x, y - 7, 16, 14, fill, rx=3, stroke=edge) + text(x + 8, y, "3", 9, text_anchor="middle")
+
+
+def pill_sign(*parts):
+    pill = Pill(*parts)
+
+    def draw(x, y):
+        pill.y = y
+        return pill.drawn(x + pill_width(pill.words), PAPER)
+    return pill_width(pill.words), draw
+
+
+def life_sign(colour, dashes, ends=False):
+    return 10, lambda x, y: line(x + 5, y - 8, x + 5, y + (0 if ends else 8), colour, stroke_width=2.8, stroke_dasharray=dashes) + (
+        cross(x + 5, y, 4, colour, 2.6) if ends else "")
+
+
+def arrow_sign():
+    colour = KINDS["FISH"]
+    return 40, lambda x, y: (tag("circle", cx=x + 3, cy=y - 4, r=2.6, fill=colour) + triangle(x + 38, y + 4, 1, colour)
+                             + path(curve(x + 3, y - 4, x + 38, y + 4), stroke=colour, stroke_width=1.3))
+
+
+def legend_items():
+    """Pairs of a sign, as its width and how it is drawn, and what it means."""
+    return [
+        (bar_sign(runs.POOL), "job 3 in the pool"),
+        (bar_sign(runs.RESERVED), "reserved for a thief"),
+        (bar_sign(runs.RUNNING), "running"),
+        ((22, lambda x, y: text(x, y, "3/2", 10.5)), "job 3, replica 2 (1 is not written)"),
+        (life_sign(DARK, None), "alive"),
+        (life_sign(WAITING, "2 2.5"), "waits on a victim"),
+        (life_sign(DARK, None, True), "dies"),
+        (arrow_sign(), "message from sending to delivery"),
+        (pill_sign("REQ 3", KINDS["REQ"]), "delivered"),
+        (pill_sign("ACK 3", KINDS["ACK"], False), "without effect"),
+        (pill_sign(f"{TIMES} FISH", KINDS["FISH"], False, True), "dropped, or lost to a dead machine"),
+        (pill_sign("AUTH 3", KINDS["AUTH"], False, True), "in flight at the end"),
+        (pill_sign(f"RESULT 3 {TICK}", KINDS["RESULT"]), "prices job 3"),
+        (pill_sign("told: 2 dead", DARK, False), "notice"),
+        (pill_sign("refused 13", RED), "refused event, with its number"),
+    ]
+
+
+def legend(width, top):
+    """The drawn signs, and where they end."""
+    drawn, x, y = [], MARGIN + 12, top + 18
+    for (sign_width, draw), words in legend_items():
+        whole = sign_width + 7 + width_of(words, 10.5) + 20
+        if x + whole > width - MARGIN - 4:
+            x, y = MARGIN + 12, y + 24
+        drawn += [draw(x, y), text(x + sign_width + 7, y, words, 10.5, SOFT)]
+        x += whole
+    frame = rect(MARGIN, top, width - 2 * MARGIN, y + 18 - top, "#ffffff", rx=6, stroke=FAINT)
+    return [frame, *drawn], y + 18
+
+
+def bond_line(number, entry, job):
+    """What the book and the page say of a bond."""
+    terms = f"{entry.periods} half-years at {entry.ytm!r}"
+    kind = f"zero, {terms}" if entry.kind == books.ZERO else f"coupon {entry.coupon!r}, {terms}"
+    if job.state == model.PRICED:
+        state = f"priced {job.price:.6f}, replica {job.replica}"
+    else:
+        state = f"open, replica {job.replica}" if job.state == model.OPEN else model.NOT_ADMITTED
+    return str(number), entry.identifier.decode("ascii"), state, kind
+
+
+def bonds(history, width, top):
+    """The list of the bonds in columns, and where it ends."""
+    lines = [bond_line(i, *both) for i, both in enumerate(zip(history.table.entries, history.table.jobs))]
+    columns = max(1, int((width - 2 * MARGIN) // 520))
+    rows = -(-len(lines) // columns)
+    drawn = []
+    for at, (number, name, state, kind) in enumerate(lines):
+        x, y = MARGIN + 520 * (at // rows), top + BOND * (at % rows) + BOND / 2
+        drawn += [text(x + 24, y, number, 10.5, text_anchor="end", font_weight="bold"), text(x + 34, y, name, 10.5),
+                  text(x + 140, y, state, 10.5, "#2f6f4a" if state.startswith("priced") else SOFT),
+                  text(x + 308, y, cut(kind, 9.5, 206), 9.5, SOFT)]
+    return drawn, top + BOND * rows
+
+
+HATCH = ('<defs><pattern id="dead" width="7" height="7" patternUnits="userSpaceOnUse" patternTransform="rotate(45)">'
+         '<rect width="7" height="7" fill="#e4e5e3"/><line x1="0" y1="0" x2="0" y2="7" stroke="#cfd1ce" stroke-width="2"/></pattern></defs>')
+
+
+def drawn(history, title):
+    """The whole picture."""
+    layout = Layout(history)
+    above = [text(MARGIN, 38, title, 21, font_weight="bold"), text(MARGIN, 66, summary(history), 11.5, SOFT)]
+    signs, y = legend(layout.width, 86)
+    listed, y = bonds(history, layout.width, y + 14)
+    layout.place_rows(y + 16)
+    height = layout.bottom + MARGIN
+    parts = [HATCH, rect(0, 0, layout.width, height, PAPER), *above, *signs, *listed]
+    for part in (ground, bars, lifelines, arrows, heads, bar_labels, pills, log):
+        parts += part(layout)
+    size = f'width="{layout.width:.0f}" height="{height:.0f}" viewBox="0 0 {layout.width:.0f} {height:.0f}"'
+    return (f'<svg xmlns="http://www.w3.org/2000/svg" {size} font-family="{FONT}">\n' + tip(title) + "\n" + "\n".join(parts) + "\n</svg>\n")
+
+
+def picture(book, events, title=None):
+    refused = books.number_of(book)
+    if refused:
+        raise desk.Stop(f"book refused {refused}: there is no run to draw")
+    machines, entries = books.parts(book)
+    history = runs.History(machines, entries, events)
+    return drawn(history, title or f"{plural(len(entries), 'bond')} on {plural(machines, 'machine')}")
+
+
+def main():
+    parser = argparse.ArgumentParser(description="Draw the run of a folder's book.bin and events.bin.")
+    parser.add_argument("folder", metavar="FOLDER")
+    parser.add_argument("svg", metavar="out.svg", type=pathlib.Path)
+    parser.add_argument("--title", help="the title line")
+    args = parser.parse_args()
+    desk.write_bytes(args.svg, picture(*model.read_folder(args.folder), args.title).encode("utf-8"))
+
+
+if __name__ == "__main__":
+    desk.run(main)

@@ -1,0 +1,507 @@
+#!/usr/bin/python3
+"""Tests of the desk's tools: book.py, events.py, model.py, picture.py.
+
+    python3 tools/test_desk.py
+
+It needs Python's standard library only, and writes to a temporary folder. What is expected is document 01's, or was decided
+by other programs: the books of book_cases with their numbers, the page of the sample close.
+"""
+import math
+import pathlib
+import random
+import struct
+import subprocess
+import sys
+import tempfile
+import unittest
+import xml.etree.ElementTree
+
+import book
+import desk
+import events
+import history
+import model
+import picture
+
+ROOT = pathlib.Path(__file__).resolve().parent.parent
+CRATES = ROOT / "crates"
+SAMPLE = ROOT / "samples" / "close"
+FIRST = ROOT / "samples" / "first"
+PICTURES = {  # those of docs/, with their titles
+    SAMPLE: ("sample-close.svg", "The sample close: twenty bonds on four machines, one of which dies"),
+    FIRST: ("first-run.svg", "A first run: three bonds on three machines"),
+}
+
+HEADER = "identifier,kind,periods,coupon,yield\n"
+GOOD = "ZZ0000000016,fixed,2,4,0\n"
+SECOND = "ZZ0000000024,zero,2,,0.5\n"
+
+# Document 01, "Examples": the listing.
+LISTING_BOOK = "# machines 2\n" + HEADER + GOOD + SECOND
+LISTING_BYTES = [(1, 0, 0), (2, 1, 0), (3, 1, 0), (3, 0, 0), (3, 0, 0), (3, 0, 1), (4, 1, 0), (5, 1, 0), (3, 1, 0), (3, 1, 0), (6, 0, 0)]
+LISTING_EVENTS = """
+admit 0         # the first bond
+steal 1 from 0
+deliver 1 to 0  # FISH
+deliver 0 to 0  # REQ
+deliver 0 to 0  # AUTH
+deliver 0 to 1  # SCHEDULE
+start 1 job 0
+done 1
+deliver 1 to 0  # ACK
+deliver 1 to 0  # RESULT
+die 0
+"""
+LISTING_PAGE = """event 11 refused 20
+ZZ0000000016 priced 405A000000000000 replica 1
+ZZ0000000024 not admitted
+"""
+# Number, event, the events before it; three machines, two entries.
+REFUSALS = [
+    *((10, event) for event in ("raw 0 0 0", "raw 8 0 0", "raw 255 9 9", "raw 1 0 1", "raw 5 0 1", "raw 6 1 9", "raw 1", "raw 1 0", "raw 1 9 1")),
+    *((11, event) for event in ("admit 2", "steal 3 from 0", "steal 0 from 3", "deliver 3 to 0", "deliver 0 to 3", "start 3 job 0", "start 0 job 2",
+                                "done 3", "die 3", "notice 3 of 0", "notice 0 of 3")),
+    (13, "admit 0", "admit 0"),
+    (12, "steal 1 from 1", "die 1"), (14, "steal 1 from 1"), (14, "steal 1 from 2", "steal 1 from 0"), (14, "steal 1 from 2", "die 2", "notice 1 of 2"),
+    (15, "deliver 0 to 1"), (15, "deliver 0 to 1", "steal 1 from 0"), (15, "deliver 1 to 2", "steal 1 from 2", "die 2"),
+    (12, "start 1 job 0", "admit 0", "die 1"), (17, "start 0 job 0", "admit 0", "start 0 job 0"), (18, "start 1 job 0", "admit 0"),
+    (12, "done 1", "die 1"), (19, "done 0", "admit 0"),
+    (20, "die 0"), (12, "die 1", "die 1"),
+    (12, "notice 1 of 1", "die 1"), (21, "notice 0 of 0"), (21, "notice 0 of 1", "die 2"), (22, "notice 0 of 1", "die 1", "notice 0 of 1"),
+]
+FIRST_PAGE = """event 24 refused 20
+US0378331005 priced 4059813F447C3D83 replica 2
+ZZ0000000016 priced 405A000000000000 replica 1
+ZZ0000000024 open replica 1
+"""
+
+
+def tool(name, *arguments):
+    """Runs a tool as the desk does."""
+    command = [sys.executable, str(ROOT / "tools" / name), *map(str, arguments)]
+    return subprocess.run(command, capture_output=True, timeout=60, check=False)
+
+
+def book_cases():
+    """The books of book_cases, each with its number."""
+    for file in sorted((CRATES / "book_cases" / "data").glob("*.bin")):
+        data, at = file.read_bytes(), 0
+        while at < len(data):
+            length, number, _, _, questions = struct.unpack_from("<HBBBB", data, at)
+            yield number, data[at + 6:at + 6 + length]
+            at += 6 + length + 25 * questions
+
+
+def random_run(seed, machines, entries, count):
+    """A book and events most of which are accepted; deaths and broken events among them."""
+    rng = random.Random(seed)
+    names = [b"ZZ%09d" % i for i in range(entries)]
+    terms = [(book.FIXED, rng.randint(1, 240), 0, 100 * rng.random(), rng.random()) for _ in names]
+    bonds = [book.Entry(name + b"%d" % book.check_digit(name), *term) for name, term in zip(names, terms)]
+    table, found = model.Table(machines, bonds), []
+    for _ in range(count):
+        found.append(random_event(rng, table))
+        table.step(found[-1])
+    return book.book_of(machines, bonds), b"".join(found)
+
+
+def random_event(rng, table):
+    if table.flight and rng.random() < 0.6:
+        message = rng.choice(table.flight)
+        return bytes([3, message.sender, message.to])
+    code = rng.choice([1, 1, 2, 2, 2, 4, 4, 5, 5, 6, 7, rng.randrange(9)])
+    a, b = rng.randrange(len(table.machines)), rng.randrange(len(table.machines))
+    if code == 1:
+        return bytes([1, rng.randrange(len(table.jobs) + 1), 0])
+    if code == 4:
+        return bytes([4, a, rng.choice(list(table.machines[a].pool) or [b])])
+    return bytes([code, a, 0 if code in (5, 6) else b])
+
+
+class Folder(unittest.TestCase):
+    """A test with a folder of its own."""
+
+    def setUp(self):
+        temporary = tempfile.TemporaryDirectory()
+        self.addCleanup(temporary.cleanup)
+        self.folder = pathlib.Path(temporary.name)
+
+    def file(self, name, content):
+        path = self.folder / name
+        path.write_bytes(content if isinstance(content, bytes) else content.encode("utf-8"))
+        return path
+
+    def assert_message(self, done, *words):
+        """It failed, and said why."""
+        said = done.stderr.decode("utf-8")
+        self.assertNotIn("Traceback", said)
+        self.assertIn(done.returncode, (1, 2))
+        for word in words or [": "]:
+            self.assertIn(word, said)
+
+
+class Books(Folder):
+    def make(self, text, *options):
+        done = tool("book.py", "make", self.file("b.csv", text), self.folder / "book.bin", *options)
+        written = self.folder / "book.bin"
+        return done, written.read_bytes() if written.exists() else None
+
+    def assert_refused(self, text, *words, options=()):
+        done, written = self.make(text, *options)
+        self.assert_message(done, *words)
+        self.assertIsNone(written)
+
+    def test_numbers_are_those_of_book_cases(self):
+        cases = list(book_cases())
+        self.assertEqual(len(cases), 689)
+        for number, data in cases:
+            self.assertEqual(book.number_of(data), number)
+
+    def test_every_accepted_book_comes_back(self):
+        accepted = [data for number, data in book_cases() if number == 0]
+        self.assertGreater(len(accepted), 50)
+        for data in accepted:
+            self.assertEqual(book.make(book.show(data)), data)
+
+    def test_rates_come_back_bit_for_bit(self):
+        rates = [0.0, -0.0, 5e-324, 0.1, 1 / 3, math.nextafter(1.0, 0.0), 1.0]
+        names = [b"ZZ%09d" % i for i in range(len(rates) ** 2)]
+        names = [name + b"%d" % book.check_digit(name) for name in names]
+        terms = [(book.FIXED, 2, 0, coupon, ytm) for coupon in rates for ytm in rates]
+        data = book.book_of(2, [book.Entry(name, *term) for name, term in zip(names, terms)])
+        self.assertEqual(book.number_of(data), 0)
+        self.assertEqual(book.make(book.show(data)), data)
+
+    def test_commands(self):
+        done, written = self.make(LISTING_BOOK)
+        self.assertEqual((done.returncode, done.stderr), (0, b""))
+        self.assertEqual(written, (CRATES / "rakhvide" / "data" / "book.bin").read_bytes())
+        shown = tool("book.py", "show", self.folder / "book.bin")
+        self.assertEqual((shown.returncode, shown.stderr), (0, b""))
+        self.assertEqual(self.make(shown.stdout)[1], written)
+
+    def test_machine_count(self):
+        self.assertEqual(book.make(HEADER)[0], 4)
+        self.assertEqual(book.make("# machines 7\n" + HEADER)[0], 7)
+        self.assertEqual(book.make("# machines 7,,,,\n" + HEADER)[0], 7)  # as a spreadsheet writes it
+        self.assertEqual(self.make("# machines 7\n" + HEADER, "--machines", "9")[1][0], 9)
+
+    def test_what_spreadsheets_write(self):
+        plain = book.make(HEADER + GOOD + SECOND)
+        for text in ("\ufeff" + HEADER + GOOD + SECOND, (HEADER + GOOD + SECOND).replace("\n", "\r\n"), HEADER + GOOD + SECOND + ",,,,\n",
+                     HEADER + "\n" + GOOD + SECOND.replace(",,", ",0,"), HEADER + '"ZZ0000000016","fixed","2","4.0","0.0"\n' + SECOND):
+            self.assertEqual(self.make(text)[1], plain)
+
+    def test_refused_2(self):
+        rows = "".join(f"{name}{book.check_digit(name.encode())},zero,1,,0\n" for name in (f"ZZ{i:09}" for i in range(65)))
+        self.assert_refused(HEADER + rows, "entries", "65", "refused 2")
+        for machines in ("1", "17", "-1", "70000"):
+            self.assert_refused(HEADER + GOOD, "machines", machines, "refused 2", options=["--machines=" + machines])
+        self.assert_refused("# machines 1\n" + HEADER + GOOD, "machines", "refused 2")
+
+    def test_refused_4(self):
+        for name in ("ZZ000000016 ", " ZZ0000000016", "zz0000000016", "ZZ000000016", "ZZ00000000160", "", "ZZ00000000\u00e96", "Z00000000016"):
+            self.assert_refused(HEADER + GOOD + f'"{name}",zero,2,,0.5\n', "row 3, column identifier", "refused 4")
+
+    def test_refused_5(self):
+        self.assert_refused(HEADER + GOOD.replace("16,", "17,"), "row 2, column identifier", "6 (refused 5)")
+
+    def test_refused_6(self):
+        self.assert_refused(HEADER + GOOD + SECOND + GOOD, "row 4, column identifier", "entry 0", "refused 6")
+
+    def test_refused_7(self):
+        for row, column in (
+                ("fixed,0,4,0", "periods"), ("fixed,241,4,0", "periods"), ("fixed,-1,4,0", "periods"), ("fixed,2,-1e-9,0", "coupon"),
+                ("fixed,2,100.00000000000002,0", "coupon"), ("fixed,2,nan,0", "coupon"), ("fixed,2,inf,0", "coupon"), ("fixed,2,4,-0.5", "yield"),
+                ("fixed,2,4,1.0000000000000002", "yield"), ("fixed,2,4,nan", "yield"), ("zero,2,1,0", "coupon"), ("zero,2,-0.0,0", "coupon")):
+            self.assert_refused(HEADER + GOOD + "ZZ0000000024," + row + "\n", f"row 3, column {column}", "refused 7")
+
+    def test_every_fault_is_named(self):
+        text = HEADER + "ZZ0000000017,fixed,0,101,2\n# between\n" + GOOD + GOOD
+        self.assert_refused(text, "row 2, column identifier", "row 2, column periods", "row 2, column coupon", "row 2, column yield",
+                            "row 5, column identifier", "refused 5", "refused 6", "refused 7", "book.bin is not written")
+
+    def test_cells_without_meaning(self):
+        for row, words in (
+                ("ZZ0000000016,bill,2,4,0", "row 2, column kind"), ("ZZ0000000016,2,2,4,0", "row 2, column kind"),
+                ("ZZ0000000016,fixed,two,4,0", "row 2, column periods"), ("ZZ0000000016,fixed,2.5,4,0", "row 2, column periods"),
+                ("ZZ0000000016,fixed,2,,0", "row 2, column coupon"), ("ZZ0000000016,fixed,2,4%,0", "row 2, column coupon"),
+                ("ZZ0000000016,fixed,2,4,", "row 2, column yield"), ("ZZ0000000016,fixed,2,4", "row 2: 4 cells"),
+                ("ZZ0000000016,fixed," + "9" * 5000 + ",4,0", "row 2, column periods"), ('"ZZ0000000016', "CSV")):
+            self.assert_refused(HEADER + row + "\n", words)
+        for text in ("", GOOD, "identifier,kind,periods,yield,coupon\n" + GOOD):
+            self.assert_refused(text, "header")
+
+    def test_anyway(self):
+        for row, number in (("ZZ000000016 ,fixed,2,4,0", 4), ("ZZ0000000017,fixed,2,4,0", 5), ("Z,3,255,nan,9", 4), ("ZZ0000000016,3,2,4,0", 7),
+                            ("ZZ0000000016,fixed,241,4,0", 7), ("ZZ0000000016,zero,2,-0.0,0", 7)):
+            done, written = self.make(HEADER + row + "\n", "--anyway")
+            self.assertEqual((done.returncode, book.number_of(written)), (0, number))
+            self.assertIn(f"refused {number}", done.stderr.decode())
+        self.assertEqual(book.number_of(self.make(HEADER + GOOD + GOOD, "--anyway")[1]), 6)
+        self.assertEqual(book.number_of(self.make(HEADER + GOOD, "--anyway", "--machines", "1")[1]), 2)
+        (self.folder / "book.bin").unlink()
+        self.assert_refused(HEADER + "ZZ0000000016,fixed,256,4,0\n", "too large", options=["--anyway"])
+
+    def test_show_of_faulty_books(self):
+        good = book.make(LISTING_BOOK)
+        for number, data in (
+                (1, b""), (1, good[:3]), (2, b"\x01" + good[1:]), (2, good[:2] + b"\xff\xff"), (3, good[:-1]), (3, good + b"\0"),
+                (4, good[:14] + b"\xff" + good[15:]), (5, good[:15] + b"7" + good[16:]), (6, good[:16] + good[4:16] + good[28:]),
+                (7, good[:28] + b"\x09" + good[29:]), (7, good[:30] + b"\x01" + good[31:])):
+            self.assertEqual(book.number_of(data), number)
+            self.assert_message(tool("book.py", "show", self.file("f.bin", data)), f"refused {number}")
+
+
+class Events(Folder):
+    def test_words(self):
+        text = "admit 0\nsteal 2 from 0\ndeliver 1 to 0\nstart 2 job 0\ndone 2\ndie 3\nnotice 0 of 3\nraw 9 9 9\nraw 1 2\n"
+        data = bytes([1, 0, 0, 2, 2, 0, 3, 1, 0, 4, 2, 0, 5, 2, 0, 6, 3, 0, 7, 0, 3, 9, 9, 9, 1, 2])
+        self.assertEqual(events.make(text), data)
+        self.assertEqual(events.show(data), text)
+        self.assertEqual(events.make("  admit   0 # one\r\n\r\n#none\n\tdone 2"), bytes([1, 0, 0, 5, 2, 0]))
+
+    def test_any_bytes_come_back(self):
+        rng = random.Random(1)
+        self.assertEqual(events.make(events.show(b"")), b"")
+        for _ in range(300):
+            data = bytes(rng.choice([rng.randrange(9), rng.randrange(256)]) for _ in range(rng.randrange(40)))
+            self.assertEqual(events.make(events.show(data)), data)
+
+    def test_every_event_comes_back(self):
+        data = b"".join(bytes([code, a, b]) for code in range(10) for a in (0, 1, 255) for b in (0, 1, 255))
+        self.assertEqual(events.make(events.show(data)), data)
+
+    def test_faults(self):
+        for line in ("admit", "admit x", "admit -1", "admit 256", "admit 0 0", "steal 1 0", "steal 1 to 0", "Admit 0", "raw", "raw 256", "raw 1 2 3 4",
+                     "raw 1", "die", "notice 1 of", "admit 99999999999999999999", "admit \u0661", "0 0 0"):
+            path = self.file("e.txt", "admit 0\n\n" + line + "\nadmit 1\n")
+            self.assert_message(tool("events.py", "make", path, self.folder / "events.bin"), "line 3", "not written")
+            self.assertFalse((self.folder / "events.bin").exists())
+
+    def test_commands(self):
+        path = self.file("e.txt", LISTING_EVENTS)
+        self.assertEqual(tool("events.py", "make", path, self.folder / "events.bin").returncode, 0)
+        self.assertEqual((self.folder / "events.bin").read_bytes(), bytes(byte for event in LISTING_BYTES for byte in event))
+        shown = tool("events.py", "show", self.folder / "events.bin").stdout.decode()
+        self.assertEqual(shown.splitlines()[1], "steal 1 from 0")
+
+    def test_a_list_too_long_is_told(self):
+        done = tool("events.py", "show", self.file("events.bin", bytes(60003)))
+        self.assertEqual(done.returncode, 0)
+        self.assertIn(b"60003 bytes", done.stderr)
+
+
+class Model(Folder):
+    def test_listing(self):
+        self.file("book.bin", book.make(LISTING_BOOK))
+        self.file("events.bin", events.make(LISTING_EVENTS))
+        self.assertEqual(tool("model.py", self.folder).stdout.decode(), LISTING_PAGE)
+
+    def test_programs(self):
+        for crate in ("rakhvide", "sample_close"):
+            done = tool("model.py", CRATES / crate / "data")
+            self.assertEqual(done.stdout, (CRATES / crate / "stdout").read_bytes())
+
+    def test_prices(self):
+        for terms, price in (((book.FIXED, 2, 0, 4.0, 0.0), 104), ((book.ZERO, 2, 0, 0.0, 0.5), 64), ((book.FIXED, 1, 0, 10.0, 0.5), 84)):
+            self.assertEqual(model.price_of(book.Entry(b"ZZ0000000016", *terms)), price)
+
+    def table(self, text, machines=3):
+        """The table after a list of events, all of which are accepted."""
+        table = model.Table(machines, book.parts(book.make(LISTING_BOOK))[1])
+        for event in events.events_of(events.make(text)):
+            self.assertEqual(table.step(event), (0, ""))
+        return table
+
+    def test_dead_thief(self):
+        """Its REQ reaches a root already told: DENIED."""
+        table = self.table("admit 0\nsteal 1 from 0\ndeliver 1 to 0\ndie 1\nnotice 0 of 1\n")
+        self.assertEqual([m.kind for m in table.flight], ["REQ"])
+        self.assertEqual(table.step(bytes([3, 0, 0])), (0, ""))
+        self.assertEqual([m.kind for m in table.flight], ["DENIED"])
+
+    def test_late_ack(self):
+        """With an old replica: place unchanged. Bond 0 goes from 0 to 2 and on to 1, whose ACK comes after the notice that 2 is dead."""
+        table = self.table("admit 0\nsteal 2 from 0\ndeliver 2 to 0\ndeliver 0 to 0\ndeliver 0 to 0\ndeliver 0 to 2\ndeliver 2 to 0\n"
+                           "steal 1 from 2\ndeliver 1 to 2\ndeliver 2 to 0\ndeliver 0 to 2\ndeliver 2 to 1\ndie 2\nnotice 0 of 2\n")
+        self.assertEqual([(m.kind, m.replica) for m in table.flight], [("ACK", 1)])
+        self.assertEqual((table.jobs[0].replica, table.jobs[0].place), (2, (0,)))
+        self.assertEqual(table.step(bytes([3, 1, 0])), (0, ""))
+        self.assertEqual((table.jobs[0].replica, table.jobs[0].place), (2, (0,)))
+
+    def test_first_result_wins(self):
+        """Two copies of bond 0 run; the second RESULT finds it priced."""
+        table = self.table("admit 0\nsteal 1 from 0\ndeliver 1 to 0\ndeliver 0 to 0\ndeliver 0 to 0\ndeliver 0 to 1\ndeliver 1 to 0\nsteal 2 from 1\n"
+                           "deliver 2 to 1\ndeliver 1 to 0\ndeliver 0 to 1\ndeliver 1 to 2\ndie 1\nnotice 0 of 1\n"
+                           "start 0 job 0\nstart 2 job 0\ndone 0\ndone 2\ndeliver 0 to 0\ndeliver 2 to 0\n")
+        self.assertEqual([(m.kind, m.replica) for m in table.flight], [("RESULT", 1)])
+        table.flight[0].price = 1.0
+        self.assertEqual(table.step(bytes([3, 2, 0])), (0, ""))
+        self.assertEqual((table.jobs[0].state, table.jobs[0].price, table.jobs[0].replica), (model.PRICED, 104.0, 2))
+
+    def test_an_old_auth(self):
+        """AUTH for a thief that died does nothing to the copy reserved now, which has the larger replica number."""
+        table = self.table("admit 0\nsteal 1 from 0\ndeliver 1 to 0\ndeliver 0 to 0\ndie 1\nnotice 0 of 1\nsteal 2 from 0\ndeliver 2 to 0\n")
+        self.assertEqual([(m.kind, m.replica, m.thief) for m in table.flight], [("AUTH", 1, 1), ("REQ", 2, 2)])
+        self.assertEqual(table.step(bytes([3, 0, 0])), (0, ""))
+        self.assertEqual(table.machines[0].reserved, (0, 2, 2))
+        self.assertEqual([m.kind for m in table.flight], ["REQ"])
+
+    def test_notice_ends_waiting(self):
+        table = self.table("steal 1 from 2\nsteal 0 from 1\ndie 2\nnotice 1 of 2\nnotice 0 of 2\n")
+        self.assertEqual([machine.waits for machine in table.machines], [1, None, None])
+
+    def test_refusals(self):
+        """The rows of the events: the last event of each list gets the number, those before it are accepted."""
+        for number, last, *before in REFUSALS:
+            table = self.table("".join(line + "\n" for line in before))
+            self.assertEqual(table.step(events.make(last))[0], number, (before, last))
+
+    def test_a_full_channel(self):
+        """Every bond goes by way of 1 to 2, which runs it; its ACK and RESULT stay in flight: 128 messages."""
+        moved = ("steal 1 from 0\ndeliver 1 to 0\ndeliver 0 to 0\ndeliver 0 to 0\ndeliver 0 to 1\ndeliver 1 to 0\n"
+                 "steal 2 from 1\ndeliver 2 to 1\ndeliver 1 to 0\ndeliver 0 to 1\ndeliver 1 to 2\n")
+        names = [f"ZZ{job:09}" for job in range(64)]
+        rows = "".join(f"{name}{book.check_digit(name.encode())},fixed,2,4,0\n" for name in names)
+        text = "".join(f"admit {job}\n{moved}start 2 job {job}\ndone 2\n" for job in range(63)) + "admit 63\n" + moved + "start 2 job 63\n"
+        last = "steal 0 from 1\ndone 2\nsteal 1 from 0\ndeliver 0 to 1\ndeliver 1 to 0\ndone 2\n"  # FISH makes 128, NOWORK is taken off
+        page = model.page(book.make("# machines 3\n" + HEADER + rows), events.make(text + last))
+        count = len(text.splitlines())
+        self.assertEqual(page.splitlines()[:3], [f"event {count + 2} refused 16", f"event {count + 3} refused 16",
+                                                 f"{names[0]}{book.check_digit(names[0].encode())} open replica 1"])
+
+    def test_a_refused_event_changes_nothing(self):
+        for seed in range(20):
+            data, found = random_run(seed, 4, 5, 150)
+            table = model.Table(*book.parts(data))
+            for event in events.events_of(found):
+                before = repr((table.jobs, table.machines, table.flight))
+                number, condition = table.step(event)
+                self.assertEqual(number == 0, condition == "")
+                if number:
+                    self.assertEqual(repr((table.jobs, table.machines, table.flight)), before)
+
+    def test_files_that_are_not_there(self):
+        self.assertEqual(tool("model.py", self.folder).stdout, b"book refused 1\n")
+        self.file("book.bin", book.make(LISTING_BOOK))
+        self.assertEqual(tool("model.py", self.folder).stdout, b"ZZ0000000016 not admitted\nZZ0000000024 not admitted\n")
+        self.assert_message(tool("model.py", self.folder / "none"), "not a folder")
+
+    def test_refused_books_and_long_lists(self):
+        for number, data in book_cases():
+            if number:
+                self.assertEqual(model.page(data, b""), f"book refused {number}\n")
+        self.file("book.bin", book.make(LISTING_BOOK))
+        self.file("events.bin", bytes(60000) + bytes([1, 0, 0]))
+        lines = tool("model.py", self.folder).stdout.decode().splitlines()
+        self.assertEqual((len(lines), lines[19999], lines[20000]), (20002, "event 20000 refused 10", "ZZ0000000016 not admitted"))
+
+
+class Samples(unittest.TestCase):
+    def made(self, folder):
+        return book.make((folder / "book.csv").read_text()), events.make((folder / "events.txt").read_text())
+
+    def test_sample_close_is_the_data_of_the_program(self):
+        self.assertEqual(self.made(SAMPLE), model.read_folder(CRATES / "sample_close" / "data"))
+
+    def test_page_of_the_first_run(self):
+        """As the README prints it; 104 is document 01's price."""
+        self.assertEqual(model.page(*self.made(FIRST)), FIRST_PAGE)
+
+    def test_pictures_are_those_in_docs(self):
+        for folder, (name, title) in PICTURES.items():
+            self.assertEqual((ROOT / "docs" / name).read_text(encoding="utf-8"), picture.picture(*self.made(folder), title))
+
+
+class Picture(Folder):
+    def drawn(self, data, found):
+        """The words of a picture, which is well-formed."""
+        tree = xml.etree.ElementTree.fromstring(picture.picture(data, found))
+        return ["".join(node.itertext()) for node in tree.iter("{http://www.w3.org/2000/svg}text")]
+
+    def assert_complete(self, data, found):
+        machines, entries = book.parts(data)
+        words = self.drawn(data, found)
+        for machine in range(machines):
+            self.assertTrue(any(text.startswith(f"machine {machine}") for text in words))
+        for entry in entries:
+            self.assertIn(entry.identifier.decode(), words)
+        numbers = [line.split()[3] for line in model.page(data, found).splitlines() if line.startswith("event ")]
+        self.assertEqual(sum(f"refused {number}:" in text for number in set(numbers) for text in words), len(numbers))
+
+    def test_programs(self):
+        for crate in ("rakhvide", "sample_close"):
+            self.assert_complete(*model.read_folder(CRATES / crate / "data"))
+
+    def test_random_runs(self):
+        for seed, machines, entries, count in ((1, 2, 1, 80), (2, 2, 0, 5), (3, 16, 64, 300), (4, 5, 9, 400), (5, 3, 4, 0), (6, 8, 20, 200)):
+            self.assert_complete(*random_run(seed, machines, entries, count))
+
+    def test_no_pill_covers_another(self):
+        for seed in range(5):
+            data, found = random_run(seed, 6, 10, 200)
+            layout = picture.Layout(history.History(*book.parts(data), found))
+            layout.place_rows(0)
+            for lane in layout.lanes:
+                places = sorted(pill.y for (_, machine), pills in layout.pills.items() if machine == lane.machine for pill in pills)
+                self.assertTrue(all(below - above >= picture.LINE for above, below in zip(places, places[1:])))
+                self.assertTrue(all(head - pill >= 9 or pill - head >= picture.HEAD for head in layout.heads for pill in places))
+
+    def test_commands(self):
+        self.file("book.bin", book.make(LISTING_BOOK))
+        self.file("events.bin", events.make(LISTING_EVENTS))
+        done = tool("picture.py", self.folder, self.folder / "out.svg", "--title", "A & <b>")
+        self.assertEqual((done.returncode, done.stderr), (0, b""))
+        self.assertIn("A & <b>", "".join(xml.etree.ElementTree.parse(self.folder / "out.svg").getroot().itertext()))
+
+    def test_refused_book(self):
+        self.file("book.bin", b"\x02\0\x01\0")
+        self.assert_message(tool("picture.py", self.folder, self.folder / "out.svg"), "book refused 3")
+        self.assertFalse((self.folder / "out.svg").exists())
+
+
+class Damage(Folder):
+    def test_files_that_cannot_be_read_or_written(self):
+        none, good = self.folder / "none", self.file("good.csv", LISTING_BOOK)
+        lines = self.file("e.txt", LISTING_EVENTS)
+        for command in (["book.py", "make", none, none], ["book.py", "show", none], ["book.py", "show", self.folder],
+                        ["book.py", "make", good, none / "b"], ["events.py", "make", none, none], ["events.py", "show", none],
+                        ["events.py", "make", lines, none / "e"], ["model.py", none], ["model.py", good], ["picture.py", none, none],
+                        ["book.py"], ["events.py", "draw"], ["picture.py"], ["model.py"], ["book.py", "make", good, none, "--machines", "x"]):
+            self.assert_message(tool(*command))
+        (self.folder / "book.bin").write_bytes(book.make(LISTING_BOOK))
+        self.assert_message(tool("picture.py", self.folder, none / "p.svg"), "cannot be written")
+
+    def test_noise(self):
+        """Any bytes are read or refused in words."""
+        rng = random.Random(2)
+        for _ in range(400):
+            noise = bytes(rng.randrange(256) for _ in range(rng.randrange(80)))
+            for read in (lambda: book.make(desk.read_text(self.file("n", noise))), lambda: book.show(noise) if not book.shape_fault(noise) else "",
+                         lambda: events.make(desk.read_text(self.file("n", noise))), lambda: picture.picture(noise, noise)):
+                try:
+                    read()
+                except desk.Stop as stop:
+                    self.assertTrue(str(stop))
+
+    def test_damaged_texts(self):
+        rng = random.Random(3)
+        text = (SAMPLE / "book.csv").read_bytes()
+        for _ in range(200):
+            damaged = bytearray(text)
+            for _ in range(rng.randint(1, 3)):
+                damaged[rng.randrange(len(damaged))] = rng.choice([0, 10, 34, 44, 48, 65, 195, rng.randrange(256)])
+            try:
+                self.assertEqual(book.number_of(book.make(desk.read_text(self.file("d.csv", bytes(damaged))))), 0)
+            except desk.Stop as stop:
+                self.assertTrue(str(stop))
+
+    def test_commands(self):
+        for name, noise in (("book.py", b"\xff\xfe\x00"), ("book.py", b"\0"), ("events.py", b"\xff")):
+            self.assert_message(tool(name, "make", self.file("noise", noise), self.folder / "out.bin"), "not written")
+            self.assertFalse((self.folder / "out.bin").exists())
+
+
+if __name__ == "__main__":
+    unittest.main()
