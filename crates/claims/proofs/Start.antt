@@ -12,12 +12,10 @@ use Rattle.book.specs.Book.{bookVerdict}
 use Rattle.book.specs.Parts.{machineCount}
 use Rattle.table.specs.declared.Job.{Job}
 use Rattle.table.specs.declared.Machine.{Machine}
-use Rattle.table.specs.declared.Table.{Table}
-use Rattle.table.specs.declared.Answer.{Answer}
 use Rattle.table.specs.Views.{nodeAt}
 use Rattle.opening.specs.Opening.{freshOf, openOf}
 use Rattle.opening.proofs.Counts.{entries-most}
-use Rattle.opening.proofs.Shown.{sized-fresh, machines-fresh, bond-fresh, job-fresh, node-fresh, node-past, pool-fresh, flight-fresh}
+use Rattle.opening.proofs.Shown.{sized-fresh, machines-fresh, bond-fresh, job-fresh, node-fresh, node-past, pool-fresh, flight-fresh, opened-table}
 use Rattle.fresh.proofs.Passes.{fresh-ok}
 use Rattle.invariant.proofs.Fresh.{Fresh, fresh-whole}
 use Rattle.claims.proofs.Deaths.{gone, deaths}
@@ -60,10 +58,5 @@ module _ (book : List ℕ) where
     entries = entries-most book;
   }
 
-  -- an accepted book opens its fresh table
-  opens : bookVerdict book ≡ 0 → openOf book .table ≡ freshOf book
-  unfolding openOf
-  opens ok = rw ok refl
-
   pub start : bookVerdict book ≡ 0 → Start book (openOf book .table)
-  start ok = rw (opens ok) (start-fresh ok)
+  start ok = rw (opened-table book ok) (start-fresh ok)

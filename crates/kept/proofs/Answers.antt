@@ -1,8 +1,8 @@
 -- Each way in which opening and stepping a kept table end, as their definitions say it. Assumes nothing.
 use Prim.Native.Nat.{ℕ}
-use mathlib.Core.Path.{_≡_, refl, sym, ap, _∙_}
+use mathlib.Core.Path.{_≡_, sym, ap, _∙_}
 use mathlib.Core.Logic.{_≢_}
-use mathlib.Core.Bool.{Bool, true, false, cond, true≢false}
+use mathlib.Core.Bool.{Bool, true, false, true≢false}
 use mathlib.Core.List.{List}
 use borrow.Author.Tests.{eq-eqb, ne-eqb, eqb-true}
 use lib.Dec.{eqb}
@@ -11,7 +11,8 @@ use Rattle.lists.proofs.Cases.{byBool}
 use Rattle.table.specs.declared.Table.{Table}
 use Rattle.table.specs.declared.Answer.{Answer}
 use Rattle.book.specs.Book.{bookVerdict}
-use Rattle.opening.specs.Opening.{freshOf, openOf}
+use Rattle.opening.specs.Opening.{openOf}
+use Rattle.opening.proofs.Shown.{opened-number, opened-table}
 use Rattle.dispatcher.specs.Step.{stepOf}
 use Rattle.kept_read.specs.Layout.{formed, tableFrom}
 use Rattle.kept_write.specs.Bytes.{bytesOf}
@@ -50,18 +51,10 @@ module _ (s e : List ℕ) (t : Table) (a : Answer) (f : formed s ≡ true) (r : 
 
 -- ---- opening
 
-open-number : (book : List ℕ) → openOf book .number ≡ bookVerdict book
-unfolding openOf
-open-number book = byBool (eqb (bookVerdict book) 0) (λ h. rw h (sym (eqb-true (bookVerdict book) 0 h))) (λ h. rw h)
-
-pub open-fresh : (book : List ℕ) → bookVerdict book ≡ 0 → openOf book .table ≡ freshOf book
-unfolding openOf
-open-fresh book z = rw (eq-eqb (bookVerdict book) 0 z)
-
 -- the opening's answer is a
 module _ (book s : List ℕ) (a : Answer) (q : a ≡ openOf book) where
   verdict : a .number ≡ bookVerdict book
-  verdict = ap (λ (x : Answer). x .number) q ∙ open-number book
+  verdict = ap (λ (x : Answer). x .number) q ∙ opened-number book
 
   pub book-refused : a .number ≢ 0 → (a .number ≡ openNumber book s) × (s ≡ openBytes book s)
   unfolding openNumber openBytes
@@ -79,4 +72,4 @@ module _ (book s : List ℕ) (a : Answer) (q : a ≡ openOf book) where
       let v : bookVerdict book ≡ 0 = sym verdict ∙ z in
       let n : eqb (bookVerdict book) 0 ≡ true = eq-eqb (bookVerdict book) 0 v in
       let l : eqb (length s) 5171 ≡ true = eq-eqb (length s) 5171 h in
-      (rw (n, l), rw (n, l) (w ∙ ap (λ (x : Answer). bytesOf (x .table)) q ∙ ap bytesOf (open-fresh book v)))
+      (rw (n, l), rw (n, l) (w ∙ ap (λ (x : Answer). bytesOf (x .table)) q ∙ ap bytesOf (opened-table book v)))

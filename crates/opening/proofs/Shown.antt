@@ -1,21 +1,23 @@
--- What the views of a fresh table show: its bonds are the book's, its machines are alive, and nothing has happened in it. Assumes nothing.
-use Prim.Native.Nat.{ℕ, _+_, _*_, _-_, _≤_, _<_}
-use mathlib.Core.Path.{_≡_, refl, _∙_}
+-- What the views of a fresh table show: its bonds are the book's, its machines are alive, and nothing has happened in it; and what opening answers.
+-- Assumes nothing.
+use Prim.Native.Nat.{ℕ, _+_, _*_, _≤_, _<_}
+use mathlib.Core.Path.{_≡_, refl, sym, _∙_}
 use mathlib.Core.List.{List, []}
 use native.Mathlib.Omega.{arith}
-use borrow.Author.Tests.{ltb-true, ltb-false}
-use lib.Dec.{ltb}
+use borrow.Author.Tests.{eq-eqb, eqb-true, ltb-true, ltb-false}
+use lib.Dec.{eqb, ltb}
 use lib.ListN.{length-replicate}
 use Rattle.lists.specs.Scan.{padTo, listOf}
 use Rattle.lists.proofs.Scans.{length-pad, length-list, pad-at, pad-past}
 use Rattle.lists.proofs.Cases.{byBool}
 use Rattle.lists.proofs.Count.{getD-same}
+use Rattle.book.specs.Book.{bookVerdict}
 use Rattle.book.specs.Parts.{machineCount, entryCount, noBond, bondOf}
 use Rattle.book.proofs.Accepted.{bond-past}
 use Rattle.table.specs.Views.{noJob, noMachine, noMessage, pastBond, bondAt, jobAt, nodeAt, poolAt, toldAt, flight}
 use Rattle.table.proofs.Views.{Sized}
 use Rattle.table.proofs.Messages.{Padded}
-use Rattle.opening.specs.Opening.{blank, quiet, bondsOf, nodesOf, freshOf}
+use Rattle.opening.specs.Opening.{blank, quiet, bondsOf, nodesOf, freshOf, openOf}
 use Rattle.opening.proofs.Counts.{machines-most}
 
 module _ (s : List ℕ) where
@@ -77,3 +79,16 @@ module _ (s : List ℕ) where
   pub padded-fresh : Padded (freshOf s)
   unfolding Padded padTo freshOf blank flight
   padded-fresh = refl
+
+  -- ---- opening a book: its own number, and the fresh table of one that is accepted
+
+  pub opened-number : openOf s .number ≡ bookVerdict s
+  unfolding openOf
+  opened-number =
+      byBool (eqb (bookVerdict s) 0)
+      (λ e. rw (e, openOf) (sym (eqb-true (bookVerdict s) 0 e)))
+      (λ e. rw (e, openOf) refl)
+
+  pub opened-table : bookVerdict s ≡ 0 → openOf s .table ≡ freshOf s
+  unfolding openOf
+  opened-table e = rw (eq-eqb (bookVerdict s) 0 e, openOf) refl

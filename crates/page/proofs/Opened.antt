@@ -1,13 +1,11 @@
 -- What opening a book gives the page: a number of one digit, and for an accepted book a table that passes check 9. Assumes nothing.
 use Prim.Native.Nat.{ℕ, _+_, _*_, _%_, _≤_}
-use mathlib.Core.Path.{_≡_, refl, sym, ap, _∙_}
+use mathlib.Core.Path.{_≡_, sym, ap, _∙_}
 use mathlib.Core.Bool.{Bool, true, false, not, cond}
 use mathlib.Core.List.{List}
 use native.Mathlib.Omega.{arith}
-use borrow.Author.Tests.{eq-eqb, eqb-true}
 use lib.Dec.{eqb, ltb}
 use lib.ListN.{length}
-use Rattle.lists.proofs.Cases.{byBool}
 use Rattle.isin.specs.Isin.{formed, total, verdictOf}
 use Rattle.term.specs.Term.{termOf}
 use Rattle.term.specs.declared.Reading.{Reading}
@@ -15,8 +13,8 @@ use Rattle.term.specs.declared.Reading.the-variants.{Faulty, Valid}
 use Rattle.book.specs.Book.{machinesOf, entriesOf, sizesInRange, identifierAt, termAt, repeated, termFault, faultAt, lowestFaulty, lowestFault, bookVerdict}
 use Rattle.table.proofs.Views.{Sized}
 use Rattle.validity.specs.Validity.{tableOk}
-use Rattle.opening.specs.Opening.{freshOf, openOf}
-use Rattle.opening.proofs.Shown.{sized-fresh}
+use Rattle.opening.specs.Opening.{openOf}
+use Rattle.opening.proofs.Shown.{sized-fresh, opened-number, opened-table}
 use Rattle.fresh.proofs.Passes.{fresh-passes}
 
 -- ---- the numbers of a book
@@ -53,22 +51,11 @@ verdict-small s =
 -- ---- opening it
 
 module _ (s : List ℕ) where
-  opened-number : openOf s .number ≡ bookVerdict s
-  unfolding openOf
-  opened-number =
-      byBool (eqb (bookVerdict s) 0)
-      (λ e. rw (e, openOf) (sym (eqb-true (bookVerdict s) 0 e)))
-      (λ e. rw (e, openOf) refl)
-
   pub number-small : openOf s .number ≤ 7
-  number-small = rw opened-number (verdict-small s)
-
-  opened-table : bookVerdict s ≡ 0 → openOf s .table ≡ freshOf s
-  unfolding openOf
-  opened-table e = rw (eq-eqb (bookVerdict s) 0 e, openOf) refl
+  number-small = rw (opened-number s) (verdict-small s)
 
   pub opened-passes : openOf s .number ≡ 0 → tableOk (openOf s .table) ≡ true
-  opened-passes e = let v = sym opened-number ∙ e in ap tableOk (opened-table v) ∙ fresh-passes s v
+  opened-passes e = let v = sym (opened-number s) ∙ e in ap tableOk (opened-table s v) ∙ fresh-passes s v
 
   pub opened-sized : openOf s .number ≡ 0 → Sized (openOf s .table)
-  opened-sized e = rw (opened-table (sym opened-number ∙ e)) (sized-fresh s)
+  opened-sized e = rw (opened-table s (sym (opened-number s) ∙ e)) (sized-fresh s)

@@ -1,12 +1,12 @@
 -- One element that is written and read again is the same element. Assumes nothing.
-use Prim.Native.Nat.{ℕ, _+_, _<_}
-use mathlib.Core.Path.{_≡_, refl, sym, ap, _∙_}
-use mathlib.Core.Bool.{true, false, not}
+use Prim.Native.Nat.{ℕ, _+_}
+use mathlib.Core.Path.{_≡_, sym, ap, _∙_}
+use mathlib.Core.Bool.{true}
 use mathlib.Core.List.{List, [], _∷_, _++_}
 use native.Mathlib.Omega.{arith}
-use borrow.Author.Tests.{eq-eqb, ne-eqb}
-use lib.Dec.{T, eqb}
-use lib.Ieee.{Float, binary64, fits, ofBits, toBits}
+use borrow.Author.Tests.{eq-eqb}
+use lib.Dec.{T}
+use lib.Ieee.{binary64, fits, toBits}
 use lib.Ieee.Bits.{ofBits-toBits}
 use lib.ListN.{length, getD}
 use Rattle.endian.specs.Endian.{le64}

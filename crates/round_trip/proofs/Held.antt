@@ -1,20 +1,18 @@
 -- Which tables are held: that of any bytes, the fresh table of a book, and after an event what was held before it. Assumes nothing.
 use Prim.Native.Nat.{ℕ, _+_, _*_, _<_}
 use mathlib.Core.Path.{_≡_, refl, sym, ap, _∙_, subst}
-use mathlib.Core.Bool.{Bool, true, false, not, cond}
+use mathlib.Core.Bool.{Bool, true, false, cond}
 use mathlib.Core.List.{List}
 use native.Mathlib.Omega.{arith}
-use lib.Dec.{T, eqb, ltb}
-use lib.IntN.{pos}
-use lib.Ieee.{Float, fin, binary64, fits, ofBits}
+use lib.Dec.{eqb, ltb}
+use lib.Ieee.{binary64, fits}
 use lib.Ieee.Bits.{ofBits-fits}
 use lib.ListN.{length, getD}
-use Rattle.lists.specs.Scan.{padTo, listOf}
+use Rattle.lists.specs.Scan.{listOf}
 use Rattle.lists.proofs.Cases.{byBool}
 use Rattle.lists.proofs.Scans.{length-list, length-pad, list-at}
 use Rattle.endian.specs.Endian.{le64}
 use Rattle.pricer.specs.declared.Bond.{Bond}
-use Rattle.pricer.specs.declared.Terms.{Terms}
 use Rattle.pricer.specs.declared.Terms.the-variants.{Zero, Fixed}
 use Rattle.pricer.specs.Range.{inRange}
 use Rattle.term.specs.Term.{of, checked, termFrom, termOf}

@@ -1,7 +1,7 @@
 -- A run that is kept as bytes between its events is the run: bytes that stand for a table stand, after any list of events, for the table of the run from it.
 -- Assumes nothing.
 use Prim.Native.Nat.{ℕ}
-use mathlib.Core.Path.{_≡_, refl, sym, ap, _∙_}
+use mathlib.Core.Path.{_≡_, refl}
 use mathlib.Core.Bool.{true, false}
 use mathlib.Core.List.{List, [], _∷_}
 use borrow.Author.Tests.{eq-eqb, eqb-true, eqb-false}
@@ -11,12 +11,12 @@ use Rattle.lists.proofs.Cases.{byBool}
 use Rattle.table.specs.declared.Table.{Table}
 use Rattle.book.specs.Book.{bookVerdict}
 use Rattle.opening.specs.Opening.{freshOf, openOf}
+use Rattle.opening.proofs.Shown.{opened-table}
 use Rattle.dispatcher.specs.Step.{stepOf, runOf}
 use Rattle.claims.proofs.Runs.{step-refused}
 use Rattle.kept_read.specs.Layout.{formed, tableFrom}
 use Rattle.kept_write.specs.Bytes.{bytesOf}
 use Rattle.kept.specs.Kept.{stepNumber, stepBytes, openNumber, openBytes}
-use Rattle.kept.proofs.Answers.{open-fresh}
 use Rattle.round_trip.specs.Again.{keptAfter, Stands, SameRun}
 use Rattle.round_trip.proofs.Table.{Held, read-again}
 use Rattle.round_trip.proofs.Held.{held-from, held-fresh, held-step}
@@ -70,4 +70,4 @@ module _ (book s : List ℕ) (v : bookVerdict book ≡ 0) (l : length s ≡ 5171
   opened-bytes = rw opens
 
   pub kept-run : SameRun (openBytes book s) (openOf book .table)
-  kept-run = rw (opened-bytes, open-fresh book v) (same-run (bytesOf (freshOf book)) (freshOf book) (read-again (freshOf book) (held-fresh book)) (held-fresh book))
+  kept-run = rw (opened-bytes, opened-table book v) (same-run (bytesOf (freshOf book)) (freshOf book) (read-again (freshOf book) (held-fresh book)) (held-fresh book))

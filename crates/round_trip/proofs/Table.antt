@@ -5,17 +5,14 @@ use mathlib.Core.Bool.{true}
 use mathlib.Core.List.{List, [], _∷_, _++_, append-nil}
 use native.Mathlib.Omega.{arith}
 use borrow.Author.Tests.{eq-eqb}
-use lib.Dec.{eqb}
-use lib.ListN.{length, getD, length-append}
-use Rattle.lists.specs.Scan.{all, listOf}
+use lib.ListN.{getD, length-append}
 use Rattle.lists.proofs.Keeps.{all-intro}
-use Rattle.pricer.specs.declared.Bond.{Bond}
 use Rattle.table.specs.declared.Table.{Table}
 use Rattle.table.specs.Views.{noJob, noMachine, noMessage, pastBond}
 use Rattle.table.proofs.Long.{Long}
-use Rattle.kept_read.specs.Layout.{bondFrom, jobFrom, machineFrom, messageFrom, bondsFrom, jobsFrom, machinesFrom, toldFrom, poolsFrom, messagesFrom, tableFrom, termsFormed, formed}
+use Rattle.kept_read.specs.Layout.{bondsFrom, jobsFrom, machinesFrom, toldFrom, poolsFrom, messagesFrom, tableFrom, formed}
 use Rattle.kept_write.specs.Bytes.{bondBytes, jobBytes, machineBytes, messageBytes, bondsBytes, jobsBytes, machinesBytes, messagesBytes, entriesBytes, fleetBytes, flightBytes, bytesOf}
-use Rattle.kept_write.proofs.Lengths.{length-bond, length-job, length-machine, length-message, length-bonds, length-jobs, length-machines, length-entries, length-fleet, length-bytes}
+use Rattle.kept_write.proofs.Lengths.{length-bond, length-job, length-machine, length-message, length-bonds, length-machines, length-entries, length-fleet, length-bytes}
 use Rattle.round_trip.specs.Again.{Stands}
 use Rattle.round_trip.proofs.Starts.{Starts, front, behind, byte, first, element, list-is}
 use Rattle.round_trip.proofs.Elements.{RatesFit, bond-again, bond-formed, job-again, machine-again, message-again}

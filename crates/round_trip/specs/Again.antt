@@ -6,7 +6,6 @@ use mathlib.Core.List.{List, [], _∷_}
 use Rattle.table.specs.declared.Table.{Table}
 use Rattle.dispatcher.specs.Step.{stepOf, runOf}
 use Rattle.kept_read.specs.Layout.{formed, tableFrom}
-use Rattle.kept_write.specs.Bytes.{bytesOf}
 use Rattle.kept.specs.Kept.{stepNumber, stepBytes}
 
 -- the bytes after a list of events, each a step on the bytes that the one before it left

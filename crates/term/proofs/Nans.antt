@@ -20,7 +20,7 @@ is-nan (inf s) h = absurd (true≢false (sym h))
 is-nan (fin s m e) h = absurd (true≢false (sym h))
 
 -- bits of a NaN stand for the NaN
-nan-of : (b : ℕ) → nanBits binary64 b ≡ true → of b ≡ nan
+pub nan-of : (b : ℕ) → nanBits binary64 b ≡ true → of b ≡ nan
 nan-of b h = is-nan (of b) (sym (nanBits-is binary64 b) ∙ h)
 
 -- no range has it

@@ -4,8 +4,8 @@ use mathlib.Core.Bool.{Bool, not}
 use borrow.Author.Tests.{lt-ltb, le-ltb}
 use lib.Dec.{T}
 use lib.Ieee.{nan, binary64, div, ofBits}
-use lib.Ieee.Bits.{nanBits-is, nanBits-above}
-use Rattle.kept_read.proofs.Filled.{is-nan}
+use lib.Ieee.Bits.{nanBits-above}
+use Rattle.term.proofs.Nans.{nan-of}
 use borrow.Author.Needs.{needs}
 use Rattle.kept_read.proofs.number.Statement.{statement}
 use Rattle.kept_read.proofs.number.Tie as tie
@@ -17,7 +17,7 @@ nought-over-nought = refl
 returns : tie.Need-returns
 returns c =
     let b = c .before .args .bits in
-    nought-over-nought ∙ is-nan (ofBits binary64 b) (sym (nanBits-is binary64 b) ∙ nanBits-above binary64 b ∙ lt-ltb _ _ (c .if1 .taken))
+    nought-over-nought ∙ sym (nan-of b (nanBits-above binary64 b ∙ lt-ltb _ _ (c .if1 .taken)))
 
 float-from-bits-result : tie.Need-float-from-bits-result
 float-from-bits-result c =
