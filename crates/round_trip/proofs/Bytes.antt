@@ -135,3 +135,7 @@ cases s e = byBool (eqb (length s) 5171) (λ h. rw h at e) (λ h. let z : _≡_ 
 -- bytes that pass the check are the bytes of their table
 pub write-again : (s : List ℕ) → AreBytes s → formed s ≡ true → tableOk (tableFrom s) ≡ true → bytesOf (tableFrom s) ≡ s
 write-again s small f ok = whole-part s small (formed-length s f) (cases s f) ok
+
+-- and no other bytes stand for that table
+pub only-bytes : (s r : List ℕ) → AreBytes s → AreBytes r → formed s ≡ true → formed r ≡ true → tableOk (tableFrom s) ≡ true → tableFrom s ≡ tableFrom r → s ≡ r
+only-bytes s r a b f g ok e = sym (write-again s a f ok) ∙ ap bytesOf e ∙ write-again r b g (rw e at ok)
