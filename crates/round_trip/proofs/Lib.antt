@@ -3,3 +3,5 @@ pub mod Elements
 pub mod Table
 pub mod Held
 pub mod Kept
+pub mod Parts
+pub mod Bytes

@@ -1,8 +1,10 @@
--- What is claimed of tables that are kept as bytes. Definitions only; the theorems are `read-again` in proofs/Table.antt and `kept-run` in proofs/Kept.antt.
-use Prim.Native.Nat.{ℕ}
+-- What is claimed of tables that are kept as bytes. Definitions only; the theorems are `read-again` in proofs/Table.antt, `write-again` in proofs/Bytes.antt
+-- and `kept-run` in proofs/Kept.antt.
+use Prim.Native.Nat.{ℕ, _<_}
 use mathlib.Core.Path.{_≡_}
 use mathlib.Core.Bool.{true}
 use mathlib.Core.List.{List, [], _∷_}
+use lib.ListN.{getD}
 use Rattle.table.specs.declared.Table.{Table}
 use Rattle.dispatcher.specs.Step.{stepOf, runOf}
 use Rattle.kept_read.specs.Layout.{formed, tableFrom}
@@ -12,6 +14,10 @@ use Rattle.kept.specs.Kept.{stepNumber, stepBytes}
 unfoldable pub keptAfter : List ℕ → List (List ℕ) → List ℕ
 keptAfter s [] = s
 keptAfter s (e ∷ es) = keptAfter (stepBytes s e) es
+
+-- each number of the list is a byte
+abbrev pub AreBytes : List ℕ → Type 0
+AreBytes s = (i : ℕ) → getD s i 0 < 256
 
 -- the bytes s stand for the table t
 pub record Stands (s : List ℕ) (t : Table) : Type 0 where
