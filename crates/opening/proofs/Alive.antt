@@ -6,7 +6,7 @@ use mathlib.Core.List.{List}
 use native.Mathlib.Numerals.{add-one}
 use native.Mathlib.Omega.{arith}
 use lib.ListN.{replicate, set}
-use Rattle.lists.specs.Scan.{padTo, listOf, upTo}
+use Rattle.lists.specs.Scan.{upTo}
 use Rattle.lists.proofs.Scans.{list-none, list-more}
 use Rattle.pricer.specs.declared.Bond.{Bond}
 use Rattle.table.specs.declared.Machine.{Machine}
