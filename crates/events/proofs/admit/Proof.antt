@@ -1,8 +1,9 @@
 -- `events::admit` meets its contract. A number that is not 0 refuses; with 0 the event is accepted.
 -- Assumes nothing.
-use mathlib.Core.Path.{_∙_, sym}
+use mathlib.Core.Path.{_∙_, ap, sym}
 use borrow.Author.Needs.{needs}
 use Rattle.lists.proofs.Rules.{tests}
+use Rattle.table.specs.Parts.{accept}
 use Rattle.events.proofs.Cases.{admit-refused, admit-accepted}
 use Rattle.events.proofs.admit.Statement.{statement}
 use Rattle.events.proofs.admit.Tie as tie
@@ -25,7 +26,7 @@ admitted-requires c κs = search tests
 returns-2 : tie.Need-returns-2
 returns-2 c =
     let s = c .before .before .before in
-    rw (c .admitted .ensures) (admit-accepted _ _ (s .pre .1) (sym (c .before .before .admit-number .ensures) ∙ c .before .if1 .left) .1)
+    ap accept (c .admitted .ensures) ∙ admit-accepted _ _ (s .pre .1) (sym (c .before .before .admit-number .ensures) ∙ c .before .if1 .left) .1
 
 pub admit-spec : {M : Type 1} → statement M
 admit-spec = tie.close (tie.spec admit-number-requires refuse-requires returns admitted-requires returns-2)

@@ -1,8 +1,9 @@
 -- `events::deliver` meets its contract. A number that is not 0 refuses; with 0 the event is accepted.
 -- Assumes nothing.
-use mathlib.Core.Path.{_∙_, sym}
+use mathlib.Core.Path.{_∙_, ap, sym}
 use borrow.Author.Needs.{needs}
 use Rattle.lists.proofs.Rules.{tests}
+use Rattle.table.specs.Parts.{accept}
 use Rattle.events.proofs.Cases.{deliver-refused, deliver-accepted}
 use Rattle.events.proofs.deliver.Statement.{statement}
 use Rattle.events.proofs.deliver.Tie as tie
@@ -25,7 +26,7 @@ delivered-requires c κs =
 
 returns-2 : tie.Need-returns-2
 returns-2 c =
-    rw (c .delivered .ensures) (deliver-accepted _ _ _ (sym (c .before .before .deliver-number .ensures) ∙ c .before .if1 .left) .1)
+    ap accept (c .delivered .ensures) ∙ deliver-accepted _ _ _ (sym (c .before .before .deliver-number .ensures) ∙ c .before .if1 .left) .1
 
 pub deliver-spec : {M : Type 1} → statement M
 deliver-spec = tie.close (tie.spec deliver-number-requires refuse-requires returns delivered-requires returns-2)

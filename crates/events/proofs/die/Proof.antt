@@ -1,8 +1,9 @@
 -- `events::die` meets its contract. A number that is not 0 refuses; with 0 the event is accepted.
 -- Assumes nothing.
-use mathlib.Core.Path.{_∙_, sym}
+use mathlib.Core.Path.{_∙_, ap, sym}
 use borrow.Author.Needs.{needs}
 use Rattle.lists.proofs.Rules.{tests}
+use Rattle.table.specs.Parts.{accept}
 use Rattle.events.proofs.Cases.{die-refused, die-accepted}
 use Rattle.events.proofs.die.Statement.{statement}
 use Rattle.events.proofs.die.Tie as tie
@@ -25,7 +26,7 @@ died-requires c κs = search tests
 returns-2 : tie.Need-returns-2
 returns-2 c =
     let s = c .before .before .before in
-    rw (c .died .ensures) (die-accepted _ _ (s .pre .1) (sym (c .before .before .die-number .ensures) ∙ c .before .if1 .left) .1)
+    ap accept (c .died .ensures) ∙ die-accepted _ _ (s .pre .1) (sym (c .before .before .die-number .ensures) ∙ c .before .if1 .left) .1
 
 pub die-spec : {M : Type 1} → statement M
 die-spec = tie.close (tie.spec die-number-requires refuse-requires returns died-requires returns-2)

@@ -1,8 +1,9 @@
 -- `notice::notice` meets its contract. A number that is not 0 refuses; with 0 the event is accepted.
 -- Assumes nothing.
-use mathlib.Core.Path.{_∙_, sym}
+use mathlib.Core.Path.{_∙_, ap, sym}
 use borrow.Author.Needs.{needs}
 use Rattle.lists.proofs.Rules.{tests}
+use Rattle.table.specs.Parts.{accept}
 use Rattle.notice.proofs.Cases.{notice-refused, notice-accepted}
 use Rattle.notice.proofs.notice.Statement.{statement}
 use Rattle.notice.proofs.notice.Tie as tie
@@ -25,7 +26,7 @@ noticed-requires c κs = search tests
 returns-2 : tie.Need-returns-2
 returns-2 c =
     let s = c .before .before .before in
-    rw (c .noticed .ensures) (notice-accepted _ _ _ (s .pre .1 .0) (s .pre .1 .1) (sym (c .before .before .notice-number .ensures) ∙ c .before .if1 .left) .1)
+    ap accept (c .noticed .ensures) ∙ notice-accepted _ _ _ (s .pre .1 .0) (s .pre .1 .1) (sym (c .before .before .notice-number .ensures) ∙ c .before .if1 .left) .1
 
 pub notice-spec : {M : Type 1} → statement M
 notice-spec = tie.close (tie.spec notice-number-requires refuse-requires returns noticed-requires returns-2)

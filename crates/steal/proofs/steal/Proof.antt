@@ -1,8 +1,9 @@
 -- `steal::steal` meets its contract. A number that is not 0 refuses; with 0 the event is accepted.
 -- Assumes nothing.
-use mathlib.Core.Path.{_∙_, sym}
+use mathlib.Core.Path.{_∙_, ap, sym}
 use borrow.Author.Needs.{needs}
 use Rattle.lists.proofs.Rules.{tests}
+use Rattle.table.specs.Parts.{accept}
 use Rattle.steal.proofs.Cases.{steal-refused, steal-accepted}
 use Rattle.steal.proofs.steal.Statement.{statement}
 use Rattle.steal.proofs.steal.Tie as tie
@@ -28,7 +29,7 @@ stolen-requires c κs =
 returns-2 : tie.Need-returns-2
 returns-2 c =
     let s = c .before .before .before in
-    rw (c .stolen .ensures) (steal-accepted _ _ _ (s .pre .1 .0) (s .pre .1 .1) (sym (c .before .before .steal-number .ensures) ∙ c .before .if1 .left) .1)
+    ap accept (c .stolen .ensures) ∙ steal-accepted _ _ _ (s .pre .1 .0) (s .pre .1 .1) (sym (c .before .before .steal-number .ensures) ∙ c .before .if1 .left) .1
 
 pub steal-spec : {M : Type 1} → statement M
 steal-spec = tie.close (tie.spec steal-number-requires refuse-requires returns stolen-requires returns-2)

@@ -1,8 +1,9 @@
 -- `work::done` meets its contract. A number that is not 0 refuses; with 0 the event is accepted.
 -- Assumes nothing.
-use mathlib.Core.Path.{_∙_, sym}
+use mathlib.Core.Path.{_∙_, ap, sym}
 use borrow.Author.Needs.{needs}
 use Rattle.lists.proofs.Rules.{tests}
+use Rattle.table.specs.Parts.{accept}
 use Rattle.work.proofs.Cases.{done-refused, done-accepted}
 use Rattle.work.proofs.done.Statement.{statement}
 use Rattle.work.proofs.done.Tie as tie
@@ -28,7 +29,7 @@ finished-requires c κs =
 returns-2 : tie.Need-returns-2
 returns-2 c =
     let s = c .before .before .before in
-    rw (c .finished .ensures) (done-accepted _ _ (s .pre .1) (sym (c .before .before .done-number .ensures) ∙ c .before .if1 .left) .1)
+    ap accept (c .finished .ensures) ∙ done-accepted _ _ (s .pre .1) (sym (c .before .before .done-number .ensures) ∙ c .before .if1 .left) .1
 
 pub done-spec : {M : Type 1} → statement M
 done-spec = tie.close (tie.spec done-number-requires refuse-requires returns finished-requires returns-2)

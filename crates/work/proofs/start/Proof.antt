@@ -1,8 +1,9 @@
 -- `work::start` meets its contract. A number that is not 0 refuses; with 0 the event is accepted.
 -- Assumes nothing.
-use mathlib.Core.Path.{_∙_, sym}
+use mathlib.Core.Path.{_∙_, ap, sym}
 use borrow.Author.Needs.{needs}
 use Rattle.lists.proofs.Rules.{tests}
+use Rattle.table.specs.Parts.{accept}
 use Rattle.work.proofs.Cases.{start-refused, start-accepted}
 use Rattle.work.proofs.start.Statement.{statement}
 use Rattle.work.proofs.start.Tie as tie
@@ -25,7 +26,7 @@ started-requires c κs = search tests
 returns-2 : tie.Need-returns-2
 returns-2 c =
     let s = c .before .before .before in
-    rw (c .started .ensures) (start-accepted _ _ _ (s .pre .1 .0) (s .pre .1 .1) (sym (c .before .before .start-number .ensures) ∙ c .before .if1 .left) .1)
+    ap accept (c .started .ensures) ∙ start-accepted _ _ _ (s .pre .1 .0) (s .pre .1 .1) (sym (c .before .before .start-number .ensures) ∙ c .before .if1 .left) .1
 
 pub start-spec : {M : Type 1} → statement M
 start-spec = tie.close (tie.spec start-number-requires refuse-requires returns started-requires returns-2)
