@@ -32,7 +32,8 @@ use Rattle.invariant.proofs.Died.{node-died, node-died-other}
 use Rattle.invariant.proofs.Alive.{alive-admitted, alive-stolen, alive-started, alive-finished, alive-noticed}
 use Rattle.invariant.proofs.Keeps.{whole-step}
 use Rattle.dispatcher.specs.Step.{codeOf, firstOf, secondOf, stepOf, runOf}
-use Rattle.dispatcher.proofs.Events.{Dying, by-cases}
+use Rattle.dispatcher.proofs.Events.{by-cases}
+use Rattle.events.proofs.Cases.{Dying}
 use Rattle.drain.proofs.Kept.{fixed-machines}
 use Rattle.drain.proofs.Weights.{lighter}
 use Rattle.claims.specs.History.{countOf, kills}

@@ -28,7 +28,8 @@ use Rattle.notice.proofs.Parts.{job-quieted}
 use Rattle.invariant.proofs.Reissued.{reissuedJob, job-reissue}
 use Rattle.dispatcher.specs.Step.{codeOf, firstOf, secondOf, stepOf}
 use Rattle.claims.specs.History.{admits, delivers, finds, takenOff}
-use Rattle.dispatcher.proofs.Events.{Admitting, by-cases}
+use Rattle.dispatcher.proofs.Events.{by-cases}
+use Rattle.events.proofs.Cases.{Admitting}
 use Rattle.claims.proofs.Change.{same-job, Change, job-send}
 use Rattle.claims.proofs.Change.Change.{admission, finding, other}
 use Rattle.claims.proofs.Handled.{change-delivered}

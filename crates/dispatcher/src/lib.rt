@@ -28,51 +28,107 @@ fn numbered(t: Table, code: u8, a: u8, b: u8) -> bool
     (a < t.machines) & (b < t.machines)
 }
 
-// The event of a code.
-fn event(t: Table, code: u8, a: u8, b: u8) -> Answer
+// The number of the event of a code.
+fn event_number(t: Table, code: u8, a: u8, b: u8) -> u8
     requires { ⌜ Ready t ⌝ }
     requires { ⌜ numbered t code a b ≡ true ⌝ }
-    ensures { λ r. ⌜ r ≡ eventOf t code a b ⌝ }
+    ensures { λ r. ⌜ r ≡ eventOf t code a b .number ⌝ }
 {
     if code == 1 {
-        return events::admit(t, a);
+        return events::admit_number(t, a);
     }
     if code == 2 {
-        return steal::steal(t, a, b);
+        return steal::steal_number(t, a, b);
     }
     if code == 3 {
-        return events::deliver(t, a, b);
+        return events::deliver_number(t, a, b);
     }
     if code == 4 {
-        return work::start(t, a, b);
+        return work::start_number(t, a, b);
     }
     if code == 5 {
-        return work::done(t, a);
+        return work::done_number(t, a);
     }
     if code == 6 {
-        return events::die(t, a);
+        return events::die_number(t, a);
     }
-    notice::notice(t, a, b)
+    notice::notice_number(t, a, b)
 }
 
-// One event on a table that passes check 9, which is not tested again: for a run, whose every table passes.
-pub fn answer(t: Table, bytes: &[u8]) -> Answer
+// The table after the event of a code whose number is 0.
+fn event_table(t: Table, code: u8, a: u8, b: u8) -> Table
+    requires { ⌜ Ready t ⌝ }
+    requires { ⌜ numbered t code a b ≡ true ⌝ }
+    requires { ⌜ eventOf t code a b .number ≡ 0 ⌝ }
+    ensures { λ r. ⌜ r ≡ eventOf t code a b .table ⌝ }
+{
+    if code == 1 {
+        return events::admitted(t, a);
+    }
+    if code == 2 {
+        return steal::stolen(t, a, b);
+    }
+    if code == 3 {
+        return events::delivered(t, a, b);
+    }
+    if code == 4 {
+        return work::started(t, a, b);
+    }
+    if code == 5 {
+        return work::finished(t, a);
+    }
+    if code == 6 {
+        return events::died(t, a);
+    }
+    notice::noticed(t, a, b)
+}
+
+// The number of one event on a table that passes check 9, which is not tested again: for a run, whose every table passes.
+pub fn number(t: Table, bytes: &[u8]) -> u8
     requires { ⌜ tableOk t ≡ true ⌝ }
-    ensures { λ r. ⌜ r ≡ answerOf t (now (bytes .entry)) ⌝ }
+    ensures { λ r. ⌜ r ≡ answerOf t (now (bytes .entry)) .number ⌝ }
 {
     if bytes.len() < 3 {
-        return table::refuse(10, t);
+        return 10;
     }
     let code = bytes[0];
     let a = bytes[1];
     let b = bytes[2];
     if !formed(code, b) {
-        return table::refuse(10, t);
+        return 10;
     }
     if !numbered(t, code, a, b) {
-        return table::refuse(11, t);
+        return 11;
     }
-    event(t, code, a, b)
+    event_number(t, code, a, b)
+}
+
+// The table after an event whose number is 0. A run asks for it only then, so that a refused event costs no copy of the table.
+pub fn next(t: Table, bytes: &[u8]) -> Table
+    requires { ⌜ tableOk t ≡ true ⌝ }
+    requires { ⌜ answerOf t (now bytes) .number ≡ 0 ⌝ }
+    ensures { λ r. ⌜ r ≡ answerOf t (now (bytes .entry)) .table ⌝ }
+{
+    let code = bytes[0];
+    let a = bytes[1];
+    let b = bytes[2];
+    event_table(t, code, a, b)
+}
+
+// Both: one event on a table that passes check 9.
+fn answer(t: Table, bytes: &[u8]) -> Answer
+    requires { ⌜ tableOk t ≡ true ⌝ }
+    ensures { λ r. ⌜ r ≡ answerOf t (now (bytes .entry)) ⌝ }
+{
+    let n = number(t, bytes);
+    if n != 0 {
+        return table::refuse(n, t);
+    }
+    let u = next(t, bytes);
+    Answer {
+        number: 0,
+        table: u,
+    }
 }
 
 // One event on any table: the entry point.

@@ -1,13 +1,35 @@
 // Events 1, 3 and 6 on a table that passed check 9, for machine and entry numbers in range: Admit, Deliver, Die. Steal and Notice are crates of their
 // own, Start and Done the crate `work`.
-// An event is a chain of its refusals in document 01's order, and a function that makes the new table.
+// An event is a number, by the chain of its refusals in document 01's order, and the table after it where that number is 0. A run asks for the one and
+// then the other, so that a table is not handed back beside each number.
 ghost use mathlib.Core.Path.{_≡_};
 ghost use Prim.Native.Nat.{_<_, _≤_};
+ghost use Rattle.table.specs.Messages.{oldest};
 ghost use Rattle.messages.specs.Needs.{Ready};
-ghost use Rattle.events.specs.Events.{admitOf, deliverOf, died, dieOf};
+ghost use Rattle.events.specs.Events.{admitted, admitOf, delivered, deliverOf, died, dieOf};
 use table::Answer;
 use table::Machine;
 use table::Table;
+
+// Event 1: its number.
+pub fn admit_number(t: Table, a: u8) -> u8
+    requires { ⌜ a < 64 ⌝ }
+    ensures { λ r. ⌜ r ≡ admitOf t a .number ⌝ }
+{
+    let job = t.jobs[a as usize];
+    if job.state != 0 {
+        return 13;
+    }
+    0
+}
+
+// Job a becomes open, replica 1, on 0, and enters the root's pool.
+pub fn admitted(t: Table, a: u8) -> Table
+    requires { ⌜ a < 64 ⌝ }
+    ensures { λ r. ⌜ r ≡ admitted t a ⌝ }
+{
+    pools::open_on_root(t, a as usize, 1)
+}
 
 // Event 1.
 pub fn admit(t: Table, a: u8) -> Answer
@@ -15,16 +37,40 @@ pub fn admit(t: Table, a: u8) -> Answer
     requires { ⌜ a < t .entries ⌝ }
     ensures { λ r. ⌜ r ≡ admitOf t a ⌝ }
 {
-    let j = a as usize;
-    let job = t.jobs[j];
-    if job.state != 0 {
-        return table::refuse(13, t);
+    let n = admit_number(t, a);
+    if n != 0 {
+        return table::refuse(n, t);
     }
-    let opened = pools::open_on_root(t, j, 1);
+    let opened = admitted(t, a);
     Answer {
         number: 0,
         table: opened,
     }
+}
+
+// Event 3: its number.
+pub fn deliver_number(t: Table, a: u8, b: u8) -> u8
+    requires { ⌜ t .«in_flight» ≤ 128 ⌝ }
+    ensures { λ r. ⌜ r ≡ deliverOf t a b .number ⌝ }
+{
+    let slot = messages::oldest(t, a, b);
+    let n = t.in_flight as usize;
+    if n <= slot {
+        return 15;
+    }
+    0
+}
+
+// The oldest message from a to b is taken off and handled by b.
+pub fn delivered(t: Table, a: u8, b: u8) -> Table
+    requires { ⌜ Ready t ⌝ }
+    requires { ⌜ oldest t a b < t .«in_flight» ⌝ }
+    ensures { λ r. ⌜ r ≡ delivered t (oldest t a b) ⌝ }
+{
+    let k = messages::oldest(t, a, b);
+    let m = t.messages[k];
+    let u = messages::pull(t, k);
+    handlers::handle(u, m)
 }
 
 // Event 3.
@@ -32,22 +78,34 @@ pub fn deliver(t: Table, a: u8, b: u8) -> Answer
     requires { ⌜ Ready t ⌝ }
     ensures { λ r. ⌜ r ≡ deliverOf t a b ⌝ }
 {
-    let k = messages::oldest(t, a, b);
-    let n = t.in_flight as usize;
-    if n <= k {
-        return table::refuse(15, t);
+    let n = deliver_number(t, a, b);
+    if n != 0 {
+        return table::refuse(n, t);
     }
-    let m = t.messages[k];
-    let u = messages::pull(t, k);
-    let v = handlers::handle(u, m);
+    let handled = delivered(t, a, b);
     Answer {
         number: 0,
-        table: v,
+        table: handled,
     }
 }
 
+// Event 6: its number.
+pub fn die_number(t: Table, a: u8) -> u8
+    requires { ⌜ a < 16 ⌝ }
+    ensures { λ r. ⌜ r ≡ dieOf t a .number ⌝ }
+{
+    if a == 0 {
+        return 20;
+    }
+    let n = t.nodes[a as usize];
+    if n.alive != 1 {
+        return 12;
+    }
+    0
+}
+
 // Machine a's pool, reserved, running and waiting are cleared, and messages to it are dropped.
-fn died(t: Table, a: u8) -> Table
+pub fn died(t: Table, a: u8) -> Table
     requires { ⌜ (a < 16) × (t .«in_flight» ≤ 128) ⌝ }
     ensures { λ r. ⌜ r ≡ died t a ⌝ }
 {
@@ -70,12 +128,9 @@ pub fn die(t: Table, a: u8) -> Answer
     requires { ⌜ a < t .machines ⌝ }
     ensures { λ r. ⌜ r ≡ dieOf t a ⌝ }
 {
-    if a == 0 {
-        return table::refuse(20, t);
-    }
-    let n = t.nodes[a as usize];
-    if n.alive != 1 {
-        return table::refuse(12, t);
+    let n = die_number(t, a);
+    if n != 0 {
+        return table::refuse(n, t);
     }
     let u = died(t, a);
     Answer {

@@ -84,7 +84,7 @@ fn reissue(t: Table, b: u8) -> Table
 }
 
 // The table after an accepted notice.
-fn noticed(t: Table, a: u8, b: u8) -> Table
+pub fn noticed(t: Table, a: u8, b: u8) -> Table
     requires { ⌜ Ready t ⌝ }
     requires { ⌜ (a < t .machines) × (b < t .machines) ⌝ }
     ensures { λ r. ⌜ r ≡ noticed t a b ⌝ }
@@ -96,23 +96,35 @@ fn noticed(t: Table, a: u8, b: u8) -> Table
     u
 }
 
+// Event 7: its number.
+pub fn notice_number(t: Table, a: u8, b: u8) -> u8
+    requires { ⌜ (a < 16) × (b < 16) ⌝ }
+    ensures { λ r. ⌜ r ≡ noticeOf t a b .number ⌝ }
+{
+    let n = t.nodes[a as usize];
+    if n.alive != 1 {
+        return 12;
+    }
+    let d = t.nodes[b as usize];
+    if d.alive == 1 {
+        return 21;
+    }
+    let told = pools::told_at(t, a as usize, b as usize);
+    if told != 0 {
+        return 22;
+    }
+    0
+}
+
 // Event 7.
 pub fn notice(t: Table, a: u8, b: u8) -> Answer
     requires { ⌜ Ready t ⌝ }
     requires { ⌜ (a < t .machines) × (b < t .machines) ⌝ }
     ensures { λ r. ⌜ r ≡ noticeOf t a b ⌝ }
 {
-    let n = t.nodes[a as usize];
-    if n.alive != 1 {
-        return table::refuse(12, t);
-    }
-    let d = t.nodes[b as usize];
-    if d.alive == 1 {
-        return table::refuse(21, t);
-    }
-    let told = pools::told_at(t, a as usize, b as usize);
-    if told != 0 {
-        return table::refuse(22, t);
+    let n = notice_number(t, a, b);
+    if n != 0 {
+        return table::refuse(n, t);
     }
     let u = noticed(t, a, b);
     Answer {

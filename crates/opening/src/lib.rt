@@ -2,8 +2,10 @@
 ghost use mathlib.Core.Path.{_≡_};
 ghost use Prim.Native.Nat.{_≤_};
 ghost use lib.ListN.{replicate};
+ghost use Rattle.lists.specs.Scan.{upTo};
 ghost use Rattle.book.specs.Parts.{noBond};
-ghost use Rattle.opening.specs.Opening.{blank, quiet, bondsOf, nodesOf, freshOf, noTable, openOf};
+ghost use Rattle.table.specs.Views.{withNode};
+ghost use Rattle.opening.specs.Opening.{blank, quiet, bondsOf, freshOf, noTable, openOf};
 use pricer::Bond;
 use pricer::Terms;
 use table::Answer;
@@ -51,21 +53,6 @@ fn bonds(s: &[u8]) -> [Bond; 64]
     out
 }
 
-// So many machines alive, and none past the last one.
-fn nodes(m: u8) -> [Machine; 16]
-    requires { ⌜ m ≤ 16 ⌝ }
-    ensures { λ r. ⌜ r ≡ nodesOf m ⌝ }
-{
-    let n = m as usize;
-    let mut out = [machine(0); 16];
-    let mut i: usize = 0;
-    while i < n {
-        out[i] = machine(1);
-        i += 1;
-    }
-    out
-}
-
 // A table with these counts, bonds and machines, in which nothing has happened.
 fn blank(machines: u8, entries: u8, bonds: [Bond; 64], nodes: [Machine; 16]) -> Table
     ensures { λ r. ⌜ r ≡ blank machines entries bonds nodes ⌝ }
@@ -106,12 +93,30 @@ fn no_table() -> Table
     blank(0, 0, no_bonds(), [machine(0); 16])
 }
 
-fn fresh(s: &[u8]) -> Table
+// The first m machines come alive. They are written into the table itself, by an index that runs: arrays that are only written at fixed places are taken
+// apart by the optimiser, and then copied number by number in every event.
+fn with_machines(t: Table, m: u8) -> Table
+    requires { ⌜ m ≤ 16 ⌝ }
+    ensures { λ r. ⌜ r ≡ upTo (λ k u. withNode u k (quiet 1)) m t ⌝ }
+{
+    let n = m as usize;
+    let mut u = t;
+    let mut i: usize = 0;
+    while i < n {
+        u.nodes[i] = machine(1);
+        i += 1;
+    }
+    u
+}
+
+// The fresh table of an accepted book.
+pub fn fresh(s: &[u8]) -> Table
     ensures { λ r. ⌜ r ≡ freshOf (now (s .entry)) ⌝ }
 {
     let m = book::machines(s);
     let n = book::entries(s);
-    blank(m, n, bonds(s), nodes(m))
+    let none = blank(m, n, bonds(s), [machine(0); 16]);
+    with_machines(none, m)
 }
 
 // 0 and the fresh table for an accepted book, else the book's number and no table.

@@ -41,7 +41,7 @@ lowest-small : (s : List ℕ) (n : ℕ) → lowestFault s n ≤ 7
 unfolding lowestFault
 lowest-small s n = either (ltb (lowestFaulty s n) n) (faultAt s n (lowestFaulty s n)) 0 (fault-small s n (lowestFaulty s n)) (omega arith)
 
-verdict-small : (s : List ℕ) → bookVerdict s ≤ 7
+pub verdict-small : (s : List ℕ) → bookVerdict s ≤ 7
 unfolding bookVerdict
 verdict-small s =
     either (ltb (length s) 4) 1 _ (omega arith)

@@ -13,11 +13,12 @@ use Rattle.lists.proofs.Cases.{byBool}
 use Rattle.text.specs.Text.{Written}
 use Rattle.text.proofs.Over.{then}
 use Rattle.lines.specs.Lines.{bookRefused, entryLine}
+use Rattle.book.specs.Book.{bookVerdict}
 use Rattle.book.specs.Parts.{identifierOf}
 use Rattle.table.specs.declared.Table.{Table}
-use Rattle.table.specs.declared.Answer.{Answer}
 use Rattle.table.specs.Views.{jobAt}
-use Rattle.opening.specs.Opening.{openOf}
+use Rattle.opening.specs.Opening.{freshOf, openOf}
+use Rattle.opening.proofs.Shown.{opened-number, opened-table}
 use Rattle.dispatcher.specs.Step.{runOf}
 use Rattle.run.specs.declared.Ran.{Ran}
 use Rattle.run.specs.Run.{eventsIn, refusalsOf, Listed}
@@ -52,19 +53,19 @@ printed-fits book events d =
     (λ e. let n = page-most book events in let l = ltb-false (length d) longest e in rw (e, printedOf) (omega arith))
 
 -- the page of a refused book, and that of an accepted one
-module _ (book events : List ℕ) {d : List ℕ} {e : List ℕ} {r : ℕ} (a : Answer) (q : a ≡ openOf book) where
-  pub refused-written : a .number ≢ 0 → Written d 0 (bookRefused (a .number)) e r → Written d 0 (pageOf book events) e r
+module _ (book events : List ℕ) {d : List ℕ} {e : List ℕ} {r : ℕ} (n : ℕ) (q : n ≡ bookVerdict book) where
+  pub refused-written : n ≢ 0 → Written d 0 (bookRefused n) e r → Written d 0 (pageOf book events) e r
   unfolding pageOf
   refused-written h w =
-      let n : openOf book .number ≢ 0 = λ z. h (ap (λ (x : Answer). x .number) q ∙ z) in
-      rw (ne-eqb (openOf book .number) 0 n, pageOf) (rw q at w)
+      let m = q ∙ sym (opened-number book) in
+      rw (ne-eqb (openOf book .number) 0 (λ z. h (m ∙ z)), pageOf) (rw m at w)
 
-  pub accepted-written : (s : List ℕ) → a .number ≡ 0 → s ≡ take 60000 events → Written d 0 (runText book (a .table) (eventsIn s)) e r
+  pub accepted-written : (t : Table) (s : List ℕ) → n ≡ 0 → t ≡ freshOf book → s ≡ take 60000 events → Written d 0 (runText book t (eventsIn s)) e r
       → Written d 0 (pageOf book events) e r
   unfolding pageOf eventsOf
-  accepted-written s h f w =
-      let n : openOf book .number ≡ 0 = ap (λ (x : Answer). x .number) (sym q) ∙ h in
-      rw (eq-eqb (openOf book .number) 0 n, pageOf) (rw (f, q) at w)
+  accepted-written t s h f g w =
+      let v = sym q ∙ h in
+      rw (eq-eqb (openOf book .number) 0 (opened-number book ∙ v), pageOf) (rw (g, f ∙ sym (opened-table book v)) at w)
 
 -- all bytes, where there are fewer than 60,000
 pub few-bytes : (s : List ℕ) → length s < 60000 → take (length s - 0) s ≡ take 60000 s

@@ -68,8 +68,7 @@ pub fn page(book: &[u8], events: &[u8], out: &mut [u8]) -> Printed
             length: 0,
         };
     }
-    let opened = opening::open(book);
-    let number = opened.number;
+    let number = book::verdict(book);
     if number != 0 {
         let end = lines::put_book_refused(out, 0, number as u64);
         return Printed {
@@ -77,7 +76,7 @@ pub fn page(book: &[u8], events: &[u8], out: &mut [u8]) -> Printed
             length: end,
         };
     }
-    let t = opened.table;
+    let t = opening::fresh(book);
     let end = put_run(book, t, first_bytes(events), out);
     Printed {
         written: true,

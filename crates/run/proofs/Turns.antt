@@ -1,6 +1,8 @@
 -- One event more in a run: its line, and how long the lines are at most. Assumes nothing.
 use Prim.Native.Nat.{ℕ, suc, _+_, _*_, _≤_, _<_}
 use mathlib.Core.Path.{_≡_, refl, sym, ap, _∙_}
+use mathlib.Core.Logic.{_≢_}
+use mathlib.Core.Bool.{true}
 use mathlib.Core.List.{List, [], _∷_, _++_, append-assoc, append-nil}
 use native.Mathlib.Nat.{add-zero}
 use native.Mathlib.Numerals.{add-one}
@@ -15,7 +17,10 @@ use Rattle.lines.specs.Lines.{eventRefused}
 use Rattle.lines.proofs.Longest.{event-most}
 use Rattle.table.specs.declared.Table.{Table}
 use Rattle.table.specs.declared.Answer.{Answer}
-use Rattle.dispatcher.specs.Step.{stepOf, runOf}
+use Rattle.validity.specs.Validity.{tableOk}
+use Rattle.dispatcher.specs.Step.{answerOf, stepOf, runOf}
+use Rattle.dispatcher.proofs.Accepted.{answer-refused}
+use Rattle.dispatcher.proofs.Kept.{step-answer}
 use Rattle.text.specs.Text.{Written}
 use Rattle.text.proofs.Over.{over-none, then}
 use Rattle.run.specs.declared.Ran.{Ran}
@@ -36,17 +41,21 @@ pub refusal-most : (place n : ℕ) → n ≤ 22 → length (refusal place n) ≤
 unfolding refusal
 refusal-most place n h = byBool (eqb n 0) (λ e. rw (e, refusal) (omega arith)) (λ e. rw (e, refusal) (event-most place n (omega arith)))
 
--- what one event leaves, accepted or refused
-module _ (d : List ℕ) (at place : ℕ) (t : Table) (e : List ℕ) (a : Answer) (q : a ≡ stepOf t e) where
-  pub listed-none : a .number ≡ 0 → Listed d at (refusal place (stepOf t e .number)) (stepOf t e .table) d (record { table = a .table; length = at })
-  listed-none h = rw (← q, ← refusal-none place (a .number) h) (record { table = refl; lines = record { text = sym (over-none d at); end = omega arith } })
+-- what one event leaves, whose number is n: an accepted one the next table, a refused one its line
+module _ (d : List ℕ) (at place : ℕ) (t : Table) (e : List ℕ) (h : tableOk t ≡ true) (n : ℕ) (q : n ≡ answerOf t e .number) where
+  pub listed-none : (u : Table) → n ≡ 0 → u ≡ answerOf t e .table
+      → Listed d at (refusal place (stepOf t e .number)) (stepOf t e .table) d (record { table = u; length = at })
+  listed-none u z w =
+      rw (step-answer t e h, ← q, ← refusal-none place n z) (record { table = w; lines = record { text = sym (over-none d at); end = omega arith } })
 
-  pub listed-some : (f : List ℕ) (r : ℕ) → (a .number ≡ 0 → ⊥) → Written d at (eventRefused place (a .number)) f r
-      → Listed d at (refusal place (stepOf t e .number)) (stepOf t e .table) f (record { table = a .table; length = r })
-  listed-some f r h w = rw (← q, ← refusal-some place (a .number) h) (record { table = refl; lines = w })
+  pub listed-some : (f : List ℕ) (r : ℕ) → n ≢ 0 → Written d at (eventRefused place n) f r
+      → Listed d at (refusal place (stepOf t e .number)) (stepOf t e .table) f (record { table = t; length = r })
+  listed-some f r z w =
+      let same = ap (λ (x : Answer). x .table) (answer-refused t e (λ x. z (q ∙ x))) in
+      rw (step-answer t e h, ← q, ← refusal-some place n z) (record { table = same; lines = w })
 
-  pub two-digit-number : a .number < 100
-  two-digit-number = rw q (omega (arith, number-most t e))
+  pub two-digit-number : n < 100
+  two-digit-number = omega (arith, q, ap (λ (x : Answer). x .number) (step-answer t e h), number-most t e)
 
 -- ---- a list with one event more at its end
 
@@ -91,13 +100,12 @@ module _ (t : Table) (s d : List ℕ) where
   unfolding listOf runOf refusalsOf
   turn-none = record { table = refl; lines = record { text = sym (over-none d 0); end = refl }; most = omega arith }
 
-  pub turn-more : (k at : ℕ) (u : Table) (e f bytes : List ℕ) (r : Ran) → Turn t s d k at u e → bytes ≡ eventAt s k
-      → Listed e at (refusal (k + 1) (stepOf u bytes .number)) (stepOf u bytes .table) f r
+  pub turn-more : (k at : ℕ) (u : Table) (e f : List ℕ) (r : Ran) → Turn t s d k at u e
+      → Listed e at (refusal (k + 1) (stepOf u (eventAt s k) .number)) (stepOf u (eventAt s k) .table) f r
       → 23 * (k + 1) ≤ length d → Turn t s d (k + 1) (r .length) (r .table) f
-  turn-more k at u e f bytes r p i j h =
+  turn-more k at u e f r p q h =
       let es = listOf (eventAt s) k in
       let b = eventAt s k in
-      let q : Listed e at (refusal (k + 1) (stepOf u b .number)) (stepOf u b .table) f r = rw i at j in
       let l : length es ≡ k = length-list (eventAt s) 0 [] k in
       let place : 1 + length es ≡ k + 1 = omega arith in
       let w : refusalsOf 1 t es ++ refusal (k + 1) (stepOf u b .number) ≡ refusalsOf 1 t (listOf (eventAt s) (k + 1)) =

@@ -4,8 +4,8 @@ ghost use mathlib.Core.Bool.{true};
 ghost use Prim.Native.Nat.{_+_, _*_, _≤_, _<_};
 ghost use lib.ListN.{length};
 ghost use Rattle.validity.specs.Validity.{tableOk};
-ghost use Rattle.dispatcher.specs.Step.{stepOf, runOf};
-ghost use Rattle.run.specs.Run.{eventAt, eventsIn, refusal, refusalsOf, Listed};
+ghost use Rattle.dispatcher.specs.Step.{runOf};
+ghost use Rattle.run.specs.Run.{eventAt, eventsIn, refusalsOf, Listed};
 use table::Table;
 
 // The table after the events, and the position after the lines written.
@@ -27,29 +27,8 @@ fn event_at(s: &[u8], k: usize) -> &[u8]
     &s[a..e]
 }
 
-// One event, and its line if it is refused. The table passes check 9, which is not tested again.
-fn event(t: Table, bytes: &[u8], place: u64, out: &mut [u8], at: usize) -> Ran
-    requires { ⌜ tableOk t ≡ true ⌝ }
-    requires { ⌜ at + 23 ≤ length (now out) ⌝ }
-    ensures { λ r. ⌜ Listed (now (out .entry)) at (refusal place (stepOf t (now (bytes .entry)) .number)) (stepOf t (now (bytes .entry)) .table) (now (out .exit)) r ⌝ }
-{
-    let a = dispatcher::answer(t, bytes);
-    let n = a.number;
-    let u = a.table;
-    if n == 0 {
-        return Ran {
-            table: u,
-            length: at,
-        };
-    }
-    let end = lines::put_event_refused(out, at, place, n as u64);
-    Ran {
-        table: u,
-        length: end,
-    }
-}
-
-// All events of s, and the lines of the refused ones from the front of the buffer on.
+// All events of s, and the lines of the refused ones from the front of the buffer on. The number of an event is asked first, and a new table only where
+// it is 0: a table handed back beside each number would be copied several times in every event.
 pub fn run(t: Table, s: &[u8], out: &mut [u8]) -> Ran
     requires { ⌜ tableOk t ≡ true ⌝ }
     requires { ⌜ (length (now s) ≤ 60000) × (460000 ≤ length (now out)) ⌝ }
@@ -60,10 +39,14 @@ pub fn run(t: Table, s: &[u8], out: &mut [u8]) -> Ran
     let mut at: usize = 0;
     let mut k: usize = 0;
     while k < n {
-        let r = event(table, event_at(s, k), (k + 1) as u64, out, at);
-        table = r.table;
-        at = r.length;
+        let i = k;
         k += 1;
+        let number = dispatcher::number(table, event_at(s, i));
+        if number == 0 {
+            table = dispatcher::next(table, event_at(s, i));
+        } else {
+            at = lines::put_event_refused(out, at, (i + 1) as u64, number as u64);
+        }
     }
     Ran { table, length: at }
 }

@@ -1,4 +1,5 @@
-// Event 2 on a table that passed check 9, for machine numbers in range: its refusals in document 01's order, and the table that it makes.
+// Event 2 on a table that passed check 9, for machine numbers in range: its number, by its refusals in document 01's order, and the table that it makes
+// where that number is 0.
 ghost use mathlib.Core.Path.{_≡_};
 ghost use Prim.Native.Nat.{_<_};
 ghost use Rattle.messages.specs.Needs.{Ready};
@@ -7,8 +8,34 @@ use table::Answer;
 use table::Message;
 use table::Table;
 
+// Event 2: its number.
+pub fn steal_number(t: Table, a: u8, b: u8) -> u8
+    requires { ⌜ (a < 16) × (b < 16) ⌝ }
+    ensures { λ r. ⌜ r ≡ stealOf t a b .number ⌝ }
+{
+    let n = t.nodes[a as usize];
+    if n.alive != 1 {
+        return 12;
+    }
+    if a == b {
+        return 14;
+    }
+    if n.waits != 0 {
+        return 14;
+    }
+    let told = pools::told_at(t, a as usize, b as usize);
+    if told != 0 {
+        return 14;
+    }
+    let used = t.in_flight;
+    if 128 <= used {
+        return 16;
+    }
+    0
+}
+
 // Thief a sends FISH to b and waits on b.
-fn stolen(t: Table, a: u8, b: u8) -> Table
+pub fn stolen(t: Table, a: u8, b: u8) -> Table
     requires { ⌜ (a < 16) × (b < 16) ⌝ }
     requires { ⌜ t .«in_flight» < 128 ⌝ }
     ensures { λ r. ⌜ r ≡ stolen t a b ⌝ }
@@ -37,27 +64,13 @@ pub fn steal(t: Table, a: u8, b: u8) -> Answer
     requires { ⌜ (a < t .machines) × (b < t .machines) ⌝ }
     ensures { λ r. ⌜ r ≡ stealOf t a b ⌝ }
 {
-    let n = t.nodes[a as usize];
-    if n.alive != 1 {
-        return table::refuse(12, t);
+    let n = steal_number(t, a, b);
+    if n != 0 {
+        return table::refuse(n, t);
     }
-    if a == b {
-        return table::refuse(14, t);
-    }
-    if n.waits != 0 {
-        return table::refuse(14, t);
-    }
-    let told = pools::told_at(t, a as usize, b as usize);
-    if told != 0 {
-        return table::refuse(14, t);
-    }
-    let used = t.in_flight;
-    if 128 <= used {
-        return table::refuse(16, t);
-    }
-    let sent = stolen(t, a, b);
+    let u = stolen(t, a, b);
     Answer {
         number: 0,
-        table: sent,
+        table: u,
     }
 }

@@ -1,5 +1,5 @@
 // Events 4 and 5, the work itself, on a table that passed check 9, for machine and entry numbers in range: Start and Done.
-// An event is a chain of its refusals in document 01's order, and a function that makes the new table.
+// An event is a number, by the chain of its refusals in document 01's order, and the table after it where that number is 0.
 ghost use mathlib.Core.Path.{_≡_};
 ghost use Prim.Native.Nat.{_<_};
 ghost use Rattle.table.specs.Views.{nodeAt};
@@ -9,8 +9,27 @@ use table::Answer;
 use table::Message;
 use table::Table;
 
+// Event 4: its number.
+pub fn start_number(t: Table, a: u8, b: u8) -> u8
+    requires { ⌜ (a < 16) × (b < 64) ⌝ }
+    ensures { λ r. ⌜ r ≡ startOf t a b .number ⌝ }
+{
+    let n = t.nodes[a as usize];
+    if n.alive != 1 {
+        return 12;
+    }
+    if n.running_replica != 0 {
+        return 17;
+    }
+    let r = t.pools[(a as usize) * 64 + (b as usize)];
+    if r == 0 {
+        return 18;
+    }
+    0
+}
+
 // Machine a moves job b from its pool to running.
-fn started(t: Table, a: u8, b: u8) -> Table
+pub fn started(t: Table, a: u8, b: u8) -> Table
     requires { ⌜ (a < 16) × (b < 64) ⌝ }
     ensures { λ r. ⌜ r ≡ started t a b ⌝ }
 {
@@ -30,16 +49,9 @@ pub fn start(t: Table, a: u8, b: u8) -> Answer
     requires { ⌜ (a < t .machines) × (b < t .entries) ⌝ }
     ensures { λ r. ⌜ r ≡ startOf t a b ⌝ }
 {
-    let n = t.nodes[a as usize];
-    if n.alive != 1 {
-        return table::refuse(12, t);
-    }
-    if n.running_replica != 0 {
-        return table::refuse(17, t);
-    }
-    let r = t.pools[(a as usize) * 64 + (b as usize)];
-    if r == 0 {
-        return table::refuse(18, t);
+    let n = start_number(t, a, b);
+    if n != 0 {
+        return table::refuse(n, t);
     }
     let u = started(t, a, b);
     Answer {
@@ -48,8 +60,26 @@ pub fn start(t: Table, a: u8, b: u8) -> Answer
     }
 }
 
+// Event 5: its number.
+pub fn done_number(t: Table, a: u8) -> u8
+    requires { ⌜ a < 16 ⌝ }
+    ensures { λ r. ⌜ r ≡ doneOf t a .number ⌝ }
+{
+    let n = t.nodes[a as usize];
+    if n.alive != 1 {
+        return 12;
+    }
+    if n.running_replica == 0 {
+        return 19;
+    }
+    if 128 <= t.in_flight {
+        return 16;
+    }
+    0
+}
+
 // The running copy of a goes and RESULT with its price is sent to the root.
-fn finished(t: Table, a: u8) -> Table
+pub fn finished(t: Table, a: u8) -> Table
     requires { ⌜ (a < 16) × (nodeAt t a .«running_job» < 64) ⌝ }
     requires { ⌜ t .«in_flight» < 128 ⌝ }
     ensures { λ r. ⌜ r ≡ finished t a ⌝ }
@@ -83,15 +113,9 @@ pub fn done(t: Table, a: u8) -> Answer
     requires { ⌜ a < t .machines ⌝ }
     ensures { λ r. ⌜ r ≡ doneOf t a ⌝ }
 {
-    let n = t.nodes[a as usize];
-    if n.alive != 1 {
-        return table::refuse(12, t);
-    }
-    if n.running_replica == 0 {
-        return table::refuse(19, t);
-    }
-    if 128 <= t.in_flight {
-        return table::refuse(16, t);
+    let n = done_number(t, a);
+    if n != 0 {
+        return table::refuse(n, t);
     }
     let u = finished(t, a);
     Answer {

@@ -1,78 +1,26 @@
--- `dispatcher::answer` meets its contract. Past the first two tests the event is formed, past the third its numbers are those of the table.
+-- `dispatcher::answer` meets its contract. A number that is not 0 refuses; with 0 the event is accepted.
 -- Assumes nothing.
+use mathlib.Core.Path.{_∙_, ap, sym}
 use borrow.Author.Needs.{needs}
-use borrow.Author.Tests.{not-false, not-true}
-use mathlib.Core.Bool.{true}
-use mathlib.Core.Path.{_∙_, _≡_, sym}
-use Rattle.table.proofs.Long.{long}
-use Rattle.dispatcher.proofs.Form.{formed-is, formed-short}
-use Rattle.dispatcher.proofs.Ready.{ready}
-use Rattle.dispatcher.specs.Step.{answerOf, formed}
+use Rattle.table.specs.Parts.{accept}
+use Rattle.dispatcher.proofs.Accepted.{answer-refused, answer-accepted}
 use Rattle.dispatcher.proofs.answer.Statement.{statement}
 use Rattle.dispatcher.proofs.answer.Tie as tie
 
-fits : (c : tie.Else2) → formed (c .before .before .before .before .before .before .before .args .bytes .now) ≡ true
-fits c = formed-is _ (c .before .before .before .before .before .if1 .left) ∙ sym (c .before .formed .ensures) ∙ not-false _ (c .if2 .left)
+number-requires : tie.Need-number-requires
+number-requires c κs = search needs
 
 refuse-requires : tie.Need-refuse-requires
 refuse-requires c κs = search needs
 
 returns : tie.Need-returns
-unfolding answerOf
-returns c = rw (c .refuse .ensures, formed-short _ (c .before .if1 .taken))
+returns c = let q = c .before .before .number .ensures in rw (c .refuse .ensures, q) (answer-refused _ _ (λ z. c .before .if1 .taken (q ∙ z)))
 
-shared-slice-read-code : tie.Need-shared-slice-read-code
-shared-slice-read-code c = search needs
-
-shared-slice-read-a : tie.Need-shared-slice-read-a
-shared-slice-read-a c = search needs
-
-shared-slice-read-b : tie.Need-shared-slice-read-b
-shared-slice-read-b c = search needs
-
-formed-requires : tie.Need-formed-requires
-formed-requires c κs = search needs
-
-refuse-requires-2 : tie.Need-refuse-requires-2
-refuse-requires-2 c κs = search needs
+next-requires : tie.Need-next-requires
+next-requires c κs = (c .before .before .before .pre, sym (c .before .number .ensures) ∙ c .if1 .left)
 
 returns-2 : tie.Need-returns-2
-unfolding answerOf
-returns-2 c = rw (c .refuse2 .ensures, formed-is (c .before .before .before .before .before .before .before .before .args .bytes .now) (c .before .before .before .before .before .before .if1 .left) ∙ sym (c .before .before .formed .ensures) ∙ not-true _ (c .before .if2 .taken))
-
-numbered-requires : tie.Need-numbered-requires
-numbered-requires c κs = search needs
-
-refuse-requires-3 : tie.Need-refuse-requires-3
-refuse-requires-3 c κs = search needs
-
-returns-3 : tie.Need-returns-3
-unfolding answerOf
-returns-3 c = rw (c .refuse3 .ensures, fits (c .before .before .before), sym (c .before .before .numbered .ensures) ∙ not-true _ (c .before .if3 .taken))
-
-event-requires : tie.Need-event-requires
-event-requires c κs =
-    let s = c .before .before .before .before .before .before .before .before .before in
-    (ready (s .args .t) (long (s .args .t) _ (s .good .0)) (s .pre), sym (c .before .numbered .ensures) ∙ not-false _ (c .if3 .left))
-
-returns-4 : tie.Need-returns-4
-unfolding answerOf
-returns-4 c = rw (c .event .ensures, fits (c .before .before .before), sym (c .before .before .numbered .ensures) ∙ not-false _ (c .before .if3 .left))
+returns-2 c = ap accept (c .next .ensures) ∙ answer-accepted _ _ (sym (c .before .before .number .ensures) ∙ c .before .if1 .left)
 
 pub answer-spec : {M : Type 1} → statement M
-answer-spec =
-    tie.close
-    (tie.spec
-    refuse-requires
-    returns
-    shared-slice-read-code
-    shared-slice-read-a
-    shared-slice-read-b
-    formed-requires
-    refuse-requires-2
-    returns-2
-    numbered-requires
-    refuse-requires-3
-    returns-3
-    event-requires
-    returns-4)
+answer-spec = tie.close (tie.spec number-requires refuse-requires returns next-requires returns-2)

@@ -1,53 +1,32 @@
--- `events::deliver` meets its contract. The message found is in flight, so that its numbers are within the arrays; once it is taken off, a slot is free.
+-- `events::deliver` meets its contract. A number that is not 0 refuses; with 0 the event is accepted.
 -- Assumes nothing.
+use mathlib.Core.Path.{_∙_, ap, sym}
 use borrow.Author.Needs.{needs}
-use Rattle.lists.proofs.Rules.{flags, tests}
-use Rattle.table.specs.Messages.{pull}
-use Rattle.table.specs.Views.{parts}
-use Rattle.events.specs.Events.{deliverOf, delivered}
+use Rattle.lists.proofs.Rules.{tests}
+use Rattle.table.specs.Parts.{accept}
+use Rattle.events.proofs.Cases.{deliver-refused, deliver-accepted}
 use Rattle.events.proofs.deliver.Statement.{statement}
 use Rattle.events.proofs.deliver.Tie as tie
 
-oldest-requires : tie.Need-oldest-requires
-oldest-requires c κs = search needs
-
-cast-n : tie.Need-cast-n
-cast-n c = search needs
+deliver-number-requires : tie.Need-deliver-number-requires
+deliver-number-requires c κs = search tests
 
 refuse-requires : tie.Need-refuse-requires
 refuse-requires c κs = search needs
 
 returns : tie.Need-returns
-unfolding deliverOf parts
-returns c = rw (← c .before .before .oldest .ensures) (search flags)
+returns c =
+    let q = c .before .before .deliver-number .ensures in
+    rw (c .refuse .ensures, q) (deliver-refused _ _ _ (λ z. c .before .if1 .taken (q ∙ z)))
 
-mul-m : tie.Need-mul-m
-mul-m c = search needs
-
-element-copy-out-m : tie.Need-element-copy-out-m
-element-copy-out-m c = search needs
-
-pull-requires : tie.Need-pull-requires
-pull-requires c κs = search needs
-
-handle-requires : tie.Need-handle-requires
-unfolding pull parts
-handle-requires c κs = (record { free = rw (c .pull .ensures) (search tests) }, c .before .before .before .before .pre .messages (c .before .before .before .oldest .result) (search tests))
+delivered-requires : tie.Need-delivered-requires
+delivered-requires c κs =
+    let y = deliver-accepted _ _ _ (sym (c .before .deliver-number .ensures) ∙ c .if1 .left) in
+    (c .before .before .pre, y .0 .slot)
 
 returns-2 : tie.Need-returns-2
-unfolding deliverOf delivered parts
-returns-2 c = rw (c .handle .ensures, c .before .pull .ensures, ← c .before .before .before .before .oldest .ensures) (search flags)
+returns-2 c =
+    ap accept (c .delivered .ensures) ∙ deliver-accepted _ _ _ (sym (c .before .before .deliver-number .ensures) ∙ c .before .if1 .left) .1
 
 pub deliver-spec : {M : Type 1} → statement M
-deliver-spec =
-    tie.close
-    (tie.spec
-    oldest-requires
-    cast-n
-    refuse-requires
-    returns
-    mul-m
-    element-copy-out-m
-    pull-requires
-    handle-requires
-    returns-2)
+deliver-spec = tie.close (tie.spec deliver-number-requires refuse-requires returns delivered-requires returns-2)

@@ -1,38 +1,32 @@
--- `events::die` meets its contract. The two refusals come in the order of the definition.
+-- `events::die` meets its contract. A number that is not 0 refuses; with 0 the event is accepted.
 -- Assumes nothing.
+use mathlib.Core.Path.{_∙_, ap, sym}
 use borrow.Author.Needs.{needs}
-use Rattle.lists.proofs.Rules.{flags}
-use Rattle.table.specs.Views.{parts}
-use Rattle.events.specs.Events.{dieOf}
+use Rattle.lists.proofs.Rules.{tests}
+use Rattle.table.specs.Parts.{accept}
+use Rattle.events.proofs.Cases.{die-refused, die-accepted}
 use Rattle.events.proofs.die.Statement.{statement}
 use Rattle.events.proofs.die.Tie as tie
+
+die-number-requires : tie.Need-die-number-requires
+die-number-requires c κs = search tests
 
 refuse-requires : tie.Need-refuse-requires
 refuse-requires c κs = search needs
 
 returns : tie.Need-returns
-unfolding dieOf parts
-returns c = search flags
-
-mul-n : tie.Need-mul-n
-mul-n c = search needs
-
-element-copy-out-n : tie.Need-element-copy-out-n
-element-copy-out-n c = search needs
-
-refuse-requires-2 : tie.Need-refuse-requires-2
-refuse-requires-2 c κs = search needs
-
-returns-2 : tie.Need-returns-2
-unfolding dieOf parts
-returns-2 c = search flags
+returns c =
+    let s = c .before .before .before in
+    let q = c .before .before .die-number .ensures in
+    rw (c .refuse .ensures, q) (die-refused _ _ (s .pre .1) (λ z. c .before .if1 .taken (q ∙ z)))
 
 died-requires : tie.Need-died-requires
-died-requires c κs = search needs
+died-requires c κs = search tests
 
-returns-3 : tie.Need-returns-3
-unfolding dieOf parts
-returns-3 c = rw (c .died .ensures) (search flags)
+returns-2 : tie.Need-returns-2
+returns-2 c =
+    let s = c .before .before .before in
+    ap accept (c .died .ensures) ∙ die-accepted _ _ (s .pre .1) (sym (c .before .before .die-number .ensures) ∙ c .before .if1 .left) .1
 
 pub die-spec : {M : Type 1} → statement M
-die-spec = tie.close (tie.spec refuse-requires returns mul-n element-copy-out-n refuse-requires-2 returns-2 died-requires returns-3)
+die-spec = tie.close (tie.spec die-number-requires refuse-requires returns died-requires returns-2)

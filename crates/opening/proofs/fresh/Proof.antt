@@ -3,7 +3,8 @@
 use borrow.Author.Needs.{needs}
 use Prim.Native.Nat.{_-_}
 use native.Mathlib.Omega.{arith}
-use Rattle.opening.specs.Opening.{blank, freshOf}
+use Rattle.opening.specs.Opening.{freshOf}
+use Rattle.opening.proofs.Alive.{alive-first}
 use Rattle.opening.proofs.Counts.{machines-most}
 use Rattle.opening.proofs.fresh.Statement.{statement}
 use Rattle.opening.proofs.fresh.Tie as tie
@@ -17,15 +18,21 @@ entries-requires c κs = search needs
 bonds-requires : tie.Need-bonds-requires
 bonds-requires c κs = search needs
 
-nodes-requires : tie.Need-nodes-requires
-nodes-requires c κs = omega (arith, c .before .before .machines .ensures, machines-most (c .before .before .before .before .args .s .now))
+machine-requires : tie.Need-machine-requires
+machine-requires c κs = search needs
 
 blank-requires : tie.Need-blank-requires
 blank-requires c κs = search needs
 
+with-machines-requires : tie.Need-with-machines-requires
+with-machines-requires c κs = omega (arith, c .before .before .before .before .machines .ensures, machines-most (c .before .before .before .before .before .before .args .s .now))
+
 returns : tie.Need-returns
 unfolding freshOf
-returns c = rw (c .blank .ensures, c .before .nodes .ensures, c .before .before .bonds .ensures, c .before .before .before .entries .ensures, c .before .before .before .before .machines .ensures)
+returns c =
+    let m = c .before .before .before .before .before .machines in
+    rw (c .with-machines .ensures, c .before .blank .ensures, c .before .before .machine .ensures, c .before .before .before .bonds .ensures, c .before .before .before .before .entries .ensures, m .ensures)
+    (alive-first _ _ _ _ (machines-most (c .before .before .before .before .before .before .before .args .s .now)))
 
 pub fresh-spec : {M : Type 1} → statement M
 fresh-spec =
@@ -34,6 +41,7 @@ fresh-spec =
     machines-requires
     entries-requires
     bonds-requires
-    nodes-requires
+    machine-requires
     blank-requires
+    with-machines-requires
     returns)

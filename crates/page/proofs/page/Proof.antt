@@ -2,9 +2,9 @@
 use mathlib.Core.Path.{ap, _∙_}
 use native.Mathlib.Omega.{arith}
 use lib.ListN.{length, length-take}
-use Rattle.table.specs.declared.Answer.{Answer}
 use Rattle.validity.specs.Validity.{tableOk}
-use Rattle.page.proofs.Opened.{number-small, opened-passes}
+use Rattle.fresh.proofs.Passes.{fresh-passes}
+use Rattle.page.proofs.Opened.{verdict-small}
 use Rattle.page.proofs.Pages.{short-printed, short-buffer, page-printed, page-buffer, refused-written, accepted-written}
 use borrow.Author.Needs.{needs}
 use Rattle.page.proofs.page.Statement.{statement}
@@ -15,15 +15,15 @@ returns c =
     let a = c .before .before .before .before .args in
     (short-printed (a .book .now) (a .events .now) (a .out .now) (c .if1 .taken), short-buffer (a .book .now) (a .events .now) (a .out .now) (c .if1 .taken))
 
-open-requires : tie.Need-open-requires
-open-requires c κs = search needs
+verdict-requires : tie.Need-verdict-requires
+verdict-requires c κs = search needs
 
 cast-put-book-refused : tie.Need-cast-put-book-refused
 cast-put-book-refused c = search needs
 
 put-book-refused-requires : tie.Need-put-book-refused-requires
 put-book-refused-requires c κs =
-    (omega arith, omega (arith, number-small (c .before .before .before .before .before .before .before .args .book .now), ap (λ (x : Answer). x .number) (c .before .before .«open» .ensures)))
+    (omega arith, omega (arith, verdict-small (c .before .before .before .before .before .before .before .args .book .now), c .before .before .verdict .ensures))
 
 same-length : tie.Need-same-length
 same-length c = search needs
@@ -31,10 +31,13 @@ same-length c = search needs
 returns-2 : tie.Need-returns-2
 returns-2 c =
     let a = c .before .before .before .before .before .before .before .before .before .before .args in
-    let o = c .before .before .before .before .before .«open» in
-    let w = refused-written (a .book .now) (a .events .now) (o .result) (o .ensures) (c .before .before .before .before .if2 .taken) (c .before .before .put-book-refused .ensures) in
+    let v = c .before .before .before .before .before .verdict in
+    let w = refused-written (a .book .now) (a .events .now) (v .result) (v .ensures) (c .before .before .before .before .if2 .taken) (c .before .before .put-book-refused .ensures) in
     let h = c .before .before .before .before .before .before .if1 .left in
     (page-printed (a .book .now) (a .events .now) (a .out .now) h _ _ w, page-buffer (a .book .now) (a .events .now) (a .out .now) h _ _ w)
+
+fresh-requires : tie.Need-fresh-requires
+fresh-requires c κs = search needs
 
 first-bytes-requires : tie.Need-first-bytes-requires
 first-bytes-requires c κs = search needs
@@ -42,10 +45,9 @@ first-bytes-requires c κs = search needs
 put-run-requires : tie.Need-put-run-requires
 put-run-requires c κs =
     let a = c .before .before .before .before .before .before .before .before .before .args in
-    let o = c .before .before .before .before .«open» in
-    let n = ap (λ (x : Answer). x .number) (o .ensures) in
+    let v = c .before .before .before .before .verdict in
     let f = ap length (c .before .first-bytes .ensures) in (
-      ap (λ (x : Answer). tableOk (x .table)) (o .ensures) ∙ opened-passes (a .book .now) (omega arith),
+      ap tableOk (c .before .before .fresh .ensures) ∙ fresh-passes (a .book .now) (omega (arith, v .ensures)),
       (omega (arith, f, length-take 60000 (a .events .now)), omega arith),
     )
 
@@ -55,9 +57,10 @@ same-length-2 c = search needs
 returns-3 : tie.Need-returns-3
 returns-3 c =
     let a = c .before .before .before .before .before .before .before .before .before .before .before .before .args in
-    let o = c .before .before .before .before .before .before .before .«open» in
+    let v = c .before .before .before .before .before .before .before .verdict in
+    let t = c .before .before .before .before .before .fresh in
     let f = c .before .before .before .before .first-bytes in
-    let w = accepted-written (a .book .now) (a .events .now) (o .result) (o .ensures) (f .result .now) (omega arith) (f .ensures) (c .before .before .put-run .ensures) in
+    let w = accepted-written (a .book .now) (a .events .now) (v .result) (v .ensures) (t .result) (f .result .now) (omega arith) (t .ensures) (f .ensures) (c .before .before .put-run .ensures) in
     let h = c .before .before .before .before .before .before .before .before .if1 .left in
     (page-printed (a .book .now) (a .events .now) (a .out .now) h _ _ w, page-buffer (a .book .now) (a .events .now) (a .out .now) h _ _ w)
 
@@ -66,11 +69,12 @@ page-spec =
     tie.close
     (tie.spec
     returns
-    open-requires
+    verdict-requires
     cast-put-book-refused
     put-book-refused-requires
     same-length
     returns-2
+    fresh-requires
     first-bytes-requires
     put-run-requires
     same-length-2

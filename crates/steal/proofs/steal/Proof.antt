@@ -1,79 +1,35 @@
--- `steal::steal` meets its contract. The five refusals come in the order of the definition.
+-- `steal::steal` meets its contract. A number that is not 0 refuses; with 0 the event is accepted.
 -- Assumes nothing.
+use mathlib.Core.Path.{_∙_, ap, sym}
 use borrow.Author.Needs.{needs}
-use Rattle.lists.proofs.Rules.{flags}
-use Rattle.table.specs.Views.{parts}
-use Rattle.steal.specs.Steal.{stealOf}
+use Rattle.lists.proofs.Rules.{tests}
+use Rattle.table.specs.Parts.{accept}
+use Rattle.steal.proofs.Cases.{steal-refused, steal-accepted}
 use Rattle.steal.proofs.steal.Statement.{statement}
 use Rattle.steal.proofs.steal.Tie as tie
 
-mul-n : tie.Need-mul-n
-mul-n c = search needs
-
-element-copy-out-n : tie.Need-element-copy-out-n
-element-copy-out-n c = search needs
+steal-number-requires : tie.Need-steal-number-requires
+steal-number-requires c κs = search tests
 
 refuse-requires : tie.Need-refuse-requires
 refuse-requires c κs = search needs
 
 returns : tie.Need-returns
-unfolding stealOf parts
-returns c = search flags
-
-refuse-requires-2 : tie.Need-refuse-requires-2
-refuse-requires-2 c κs = search needs
-
-returns-2 : tie.Need-returns-2
-unfolding stealOf parts
-returns-2 c = search flags
-
-refuse-requires-3 : tie.Need-refuse-requires-3
-refuse-requires-3 c κs = search needs
-
-returns-3 : tie.Need-returns-3
-unfolding stealOf parts
-returns-3 c = search flags
-
-told-at-requires : tie.Need-told-at-requires
-told-at-requires c κs = search needs
-
-refuse-requires-4 : tie.Need-refuse-requires-4
-refuse-requires-4 c κs = search needs
-
-returns-4 : tie.Need-returns-4
-unfolding stealOf parts
-returns-4 c = rw (← c .before .before .told-at .ensures) (search flags)
-
-refuse-requires-5 : tie.Need-refuse-requires-5
-refuse-requires-5 c κs = search needs
-
-returns-5 : tie.Need-returns-5
-unfolding stealOf parts
-returns-5 c = rw (← c .before .before .before .told-at .ensures) (search flags)
+returns c =
+    let s = c .before .before .before in
+    let q = c .before .before .steal-number .ensures in
+    rw (c .refuse .ensures, q) (steal-refused _ _ _ (s .pre .1 .0) (s .pre .1 .1) (λ z. c .before .if1 .taken (q ∙ z)))
 
 stolen-requires : tie.Need-stolen-requires
-stolen-requires c κs = search needs
+stolen-requires c κs =
+    let s = c .before .before in
+    let y = steal-accepted _ _ _ (s .pre .1 .0) (s .pre .1 .1) (sym (c .before .steal-number .ensures) ∙ c .if1 .left) in
+    (search tests, y .0 .room)
 
-returns-6 : tie.Need-returns-6
-unfolding stealOf parts
-returns-6 c = rw (c .stolen .ensures, ← c .before .before .before .told-at .ensures) (search flags)
+returns-2 : tie.Need-returns-2
+returns-2 c =
+    let s = c .before .before .before in
+    ap accept (c .stolen .ensures) ∙ steal-accepted _ _ _ (s .pre .1 .0) (s .pre .1 .1) (sym (c .before .before .steal-number .ensures) ∙ c .before .if1 .left) .1
 
 pub steal-spec : {M : Type 1} → statement M
-steal-spec =
-    tie.close
-    (tie.spec
-    mul-n
-    element-copy-out-n
-    refuse-requires
-    returns
-    refuse-requires-2
-    returns-2
-    refuse-requires-3
-    returns-3
-    told-at-requires
-    refuse-requires-4
-    returns-4
-    refuse-requires-5
-    returns-5
-    stolen-requires
-    returns-6)
+steal-spec = tie.close (tie.spec steal-number-requires refuse-requires returns stolen-requires returns-2)

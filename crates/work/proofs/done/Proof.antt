@@ -1,47 +1,35 @@
--- `work::done` meets its contract. The three refusals come in the order of the definition.
+-- `work::done` meets its contract. A number that is not 0 refuses; with 0 the event is accepted.
 -- Assumes nothing.
+use mathlib.Core.Path.{_∙_, ap, sym}
 use borrow.Author.Needs.{needs}
-use Rattle.lists.proofs.Rules.{flags, tests}
-use Rattle.table.specs.Views.{parts}
-use Rattle.work.specs.Work.{doneOf}
+use Rattle.lists.proofs.Rules.{tests}
+use Rattle.table.specs.Parts.{accept}
+use Rattle.work.proofs.Cases.{done-refused, done-accepted}
 use Rattle.work.proofs.done.Statement.{statement}
 use Rattle.work.proofs.done.Tie as tie
 
-mul-n : tie.Need-mul-n
-mul-n c = search needs
-
-element-copy-out-n : tie.Need-element-copy-out-n
-element-copy-out-n c = search needs
+done-number-requires : tie.Need-done-number-requires
+done-number-requires c κs = search tests
 
 refuse-requires : tie.Need-refuse-requires
 refuse-requires c κs = search needs
 
 returns : tie.Need-returns
-unfolding doneOf parts
-returns c = search flags
-
-refuse-requires-2 : tie.Need-refuse-requires-2
-refuse-requires-2 c κs = search needs
-
-returns-2 : tie.Need-returns-2
-unfolding doneOf parts
-returns-2 c = search flags
-
-refuse-requires-3 : tie.Need-refuse-requires-3
-refuse-requires-3 c κs = search needs
-
-returns-3 : tie.Need-returns-3
-unfolding doneOf parts
-returns-3 c = search flags
+returns c =
+    let s = c .before .before .before in
+    let q = c .before .before .done-number .ensures in
+    rw (c .refuse .ensures, q) (done-refused _ _ (s .pre .1) (λ z. c .before .if1 .taken (q ∙ z)))
 
 finished-requires : tie.Need-finished-requires
-finished-requires c κs = ((search tests, c .before .before .before .before .before .before .pre .0 .running _ (search tests)), search tests)
+finished-requires c κs =
+    let s = c .before .before in
+    let y = done-accepted _ _ (s .pre .1) (sym (c .before .done-number .ensures) ∙ c .if1 .left) in
+    ((search tests, s .pre .0 .running _ (search tests)), y .0 .room)
 
-returns-4 : tie.Need-returns-4
-unfolding doneOf parts
-returns-4 c = rw (c .finished .ensures) (search flags)
+returns-2 : tie.Need-returns-2
+returns-2 c =
+    let s = c .before .before .before in
+    ap accept (c .finished .ensures) ∙ done-accepted _ _ (s .pre .1) (sym (c .before .before .done-number .ensures) ∙ c .before .if1 .left) .1
 
 pub done-spec : {M : Type 1} → statement M
-done-spec =
-    tie.close
-    (tie.spec mul-n element-copy-out-n refuse-requires returns refuse-requires-2 returns-2 refuse-requires-3 returns-3 finished-requires returns-4)
+done-spec = tie.close (tie.spec done-number-requires refuse-requires returns finished-requires returns-2)

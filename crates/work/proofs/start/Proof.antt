@@ -1,69 +1,32 @@
--- `work::start` meets its contract. The three refusals come in the order of the definition.
+-- `work::start` meets its contract. A number that is not 0 refuses; with 0 the event is accepted.
 -- Assumes nothing.
+use mathlib.Core.Path.{_∙_, ap, sym}
 use borrow.Author.Needs.{needs}
-use Rattle.lists.proofs.Rules.{flags}
-use Rattle.table.specs.Views.{parts}
-use Rattle.work.specs.Work.{startOf}
+use Rattle.lists.proofs.Rules.{tests}
+use Rattle.table.specs.Parts.{accept}
+use Rattle.work.proofs.Cases.{start-refused, start-accepted}
 use Rattle.work.proofs.start.Statement.{statement}
 use Rattle.work.proofs.start.Tie as tie
 
-mul-n : tie.Need-mul-n
-mul-n c = search needs
-
-element-copy-out-n : tie.Need-element-copy-out-n
-element-copy-out-n c = search needs
+start-number-requires : tie.Need-start-number-requires
+start-number-requires c κs = search tests
 
 refuse-requires : tie.Need-refuse-requires
 refuse-requires c κs = search needs
 
 returns : tie.Need-returns
-unfolding startOf parts
-returns c = search flags
-
-refuse-requires-2 : tie.Need-refuse-requires-2
-refuse-requires-2 c κs = search needs
-
-returns-2 : tie.Need-returns-2
-unfolding startOf parts
-returns-2 c = search flags
-
-mul-r : tie.Need-mul-r
-mul-r c = search needs
-
-add-r : tie.Need-add-r
-add-r c = search needs
-
-element-copy-out-r : tie.Need-element-copy-out-r
-element-copy-out-r c = search needs
-
-refuse-requires-3 : tie.Need-refuse-requires-3
-refuse-requires-3 c κs = search needs
-
-returns-3 : tie.Need-returns-3
-unfolding startOf parts
-returns-3 c = search flags
+returns c =
+    let s = c .before .before .before in
+    let q = c .before .before .start-number .ensures in
+    rw (c .refuse .ensures, q) (start-refused _ _ _ (s .pre .1 .0) (s .pre .1 .1) (λ z. c .before .if1 .taken (q ∙ z)))
 
 started-requires : tie.Need-started-requires
-started-requires c κs = search needs
+started-requires c κs = search tests
 
-returns-4 : tie.Need-returns-4
-unfolding startOf parts
-returns-4 c = rw (c .started .ensures) (search flags)
+returns-2 : tie.Need-returns-2
+returns-2 c =
+    let s = c .before .before .before in
+    ap accept (c .started .ensures) ∙ start-accepted _ _ _ (s .pre .1 .0) (s .pre .1 .1) (sym (c .before .before .start-number .ensures) ∙ c .before .if1 .left) .1
 
 pub start-spec : {M : Type 1} → statement M
-start-spec =
-    tie.close
-    (tie.spec
-    mul-n
-    element-copy-out-n
-    refuse-requires
-    returns
-    refuse-requires-2
-    returns-2
-    mul-r
-    add-r
-    element-copy-out-r
-    refuse-requires-3
-    returns-3
-    started-requires
-    returns-4)
+start-spec = tie.close (tie.spec start-number-requires refuse-requires returns started-requires returns-2)

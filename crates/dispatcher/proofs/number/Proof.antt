@@ -1,0 +1,66 @@
+-- `dispatcher::number` meets its contract. Past the first two tests the event is formed, past the third its numbers are those of the table.
+-- Assumes nothing.
+use borrow.Author.Needs.{needs}
+use borrow.Author.Tests.{not-false, not-true}
+use mathlib.Core.Bool.{true}
+use mathlib.Core.Path.{_∙_, _≡_, sym}
+use Rattle.table.proofs.Long.{long}
+use Rattle.dispatcher.proofs.Form.{formed-is, formed-short}
+use Rattle.dispatcher.proofs.Ready.{ready}
+use Rattle.dispatcher.specs.Step.{answerOf, formed}
+use Rattle.dispatcher.proofs.number.Statement.{statement}
+use Rattle.dispatcher.proofs.number.Tie as tie
+
+fits : (c : tie.Else2) → formed (c .before .before .before .before .before .before .before .args .bytes .now) ≡ true
+fits c = formed-is _ (c .before .before .before .before .before .if1 .left) ∙ sym (c .before .formed .ensures) ∙ not-false _ (c .if2 .left)
+
+returns : tie.Need-returns
+unfolding answerOf
+returns c = rw (formed-short _ (c .if1 .taken))
+
+shared-slice-read-code : tie.Need-shared-slice-read-code
+shared-slice-read-code c = search needs
+
+shared-slice-read-a : tie.Need-shared-slice-read-a
+shared-slice-read-a c = search needs
+
+shared-slice-read-b : tie.Need-shared-slice-read-b
+shared-slice-read-b c = search needs
+
+formed-requires : tie.Need-formed-requires
+formed-requires c κs = search needs
+
+returns-2 : tie.Need-returns-2
+unfolding answerOf
+returns-2 c = rw (formed-is (c .before .before .before .before .before .before .before .args .bytes .now) (c .before .before .before .before .before .if1 .left) ∙ sym (c .before .formed .ensures) ∙ not-true _ (c .if2 .taken))
+
+numbered-requires : tie.Need-numbered-requires
+numbered-requires c κs = search needs
+
+returns-3 : tie.Need-returns-3
+unfolding answerOf
+returns-3 c = rw (fits (c .before .before), sym (c .before .numbered .ensures) ∙ not-true _ (c .if3 .taken))
+
+event-number-requires : tie.Need-event-number-requires
+event-number-requires c κs =
+    let s = c .before .before .before .before .before .before .before .before .before in
+    (ready (s .args .t) (long (s .args .t) _ (s .good .0)) (s .pre), sym (c .before .numbered .ensures) ∙ not-false _ (c .if3 .left))
+
+returns-4 : tie.Need-returns-4
+unfolding answerOf
+returns-4 c = rw (c .event-number .ensures, fits (c .before .before .before), sym (c .before .before .numbered .ensures) ∙ not-false _ (c .before .if3 .left))
+
+pub number-spec : {M : Type 1} → statement M
+number-spec =
+    tie.close
+    (tie.spec
+    returns
+    shared-slice-read-code
+    shared-slice-read-a
+    shared-slice-read-b
+    formed-requires
+    returns-2
+    numbered-requires
+    returns-3
+    event-number-requires
+    returns-4)

@@ -1,0 +1,25 @@
+-- `events::admit_number` meets its contract. The refusal is that of the definition.
+-- Assumes nothing.
+use borrow.Author.Needs.{needs}
+use Rattle.lists.proofs.Rules.{flags}
+use Rattle.table.specs.Views.{parts}
+use Rattle.events.specs.Events.{admitOf}
+use Rattle.events.proofs.admit_number.Statement.{statement}
+use Rattle.events.proofs.admit_number.Tie as tie
+
+mul-job : tie.Need-mul-job
+mul-job c = search needs
+
+element-copy-out-job : tie.Need-element-copy-out-job
+element-copy-out-job c = search needs
+
+returns : tie.Need-returns
+unfolding admitOf parts
+returns c = search flags
+
+returns-2 : tie.Need-returns-2
+unfolding admitOf parts
+returns-2 c = search flags
+
+pub admit-number-spec : {M : Type 1} → statement M
+admit-number-spec = tie.close (tie.spec mul-job element-copy-out-job returns returns-2)

@@ -1,0 +1,16 @@
+-- `events::admitted` meets its contract. By the equation of `open_on_root`.
+-- Assumes nothing.
+use borrow.Author.Needs.{needs}
+use Rattle.events.specs.Events.{admitted}
+use Rattle.events.proofs.admitted.Statement.{statement}
+use Rattle.events.proofs.admitted.Tie as tie
+
+open-on-root-requires : tie.Need-open-on-root-requires
+open-on-root-requires c κs = search needs
+
+returns : tie.Need-returns
+unfolding admitted
+returns c = c .open-on-root .ensures
+
+pub admitted-spec : {M : Type 1} → statement M
+admitted-spec = tie.close (tie.spec open-on-root-requires returns)

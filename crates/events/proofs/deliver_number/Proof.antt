@@ -1,0 +1,25 @@
+-- `events::deliver_number` meets its contract. The refusal is that of the definition.
+-- Assumes nothing.
+use borrow.Author.Needs.{needs}
+use Rattle.lists.proofs.Rules.{flags}
+use Rattle.table.specs.Views.{parts}
+use Rattle.events.specs.Events.{deliverOf}
+use Rattle.events.proofs.deliver_number.Statement.{statement}
+use Rattle.events.proofs.deliver_number.Tie as tie
+
+oldest-requires : tie.Need-oldest-requires
+oldest-requires c κs = search needs
+
+cast-n : tie.Need-cast-n
+cast-n c = search needs
+
+returns : tie.Need-returns
+unfolding deliverOf parts
+returns c = rw (← c .before .before .oldest .ensures) (search flags)
+
+returns-2 : tie.Need-returns-2
+unfolding deliverOf parts
+returns-2 c = rw (← c .before .before .oldest .ensures) (search flags)
+
+pub deliver-number-spec : {M : Type 1} → statement M
+deliver-number-spec = tie.close (tie.spec oldest-requires cast-n returns returns-2)

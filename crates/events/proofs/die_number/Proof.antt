@@ -1,0 +1,29 @@
+-- `events::die_number` meets its contract. The two refusals come in the order of the definition.
+-- Assumes nothing.
+use borrow.Author.Needs.{needs}
+use Rattle.lists.proofs.Rules.{flags}
+use Rattle.table.specs.Views.{parts}
+use Rattle.events.specs.Events.{dieOf}
+use Rattle.events.proofs.die_number.Statement.{statement}
+use Rattle.events.proofs.die_number.Tie as tie
+
+returns : tie.Need-returns
+unfolding dieOf parts
+returns c = search flags
+
+mul-n : tie.Need-mul-n
+mul-n c = search needs
+
+element-copy-out-n : tie.Need-element-copy-out-n
+element-copy-out-n c = search needs
+
+returns-2 : tie.Need-returns-2
+unfolding dieOf parts
+returns-2 c = search flags
+
+returns-3 : tie.Need-returns-3
+unfolding dieOf parts
+returns-3 c = search flags
+
+pub die-number-spec : {M : Type 1} → statement M
+die-number-spec = tie.close (tie.spec returns mul-n element-copy-out-n returns-2 returns-3)

@@ -1,0 +1,42 @@
+-- `notice::notice_number` meets its contract. The three refusals come in the order of the definition.
+-- Assumes nothing.
+use borrow.Author.Needs.{needs}
+use Rattle.lists.proofs.Rules.{flags}
+use Rattle.table.specs.Views.{parts}
+use Rattle.notice.specs.Notice.{noticeOf}
+use Rattle.notice.proofs.notice_number.Statement.{statement}
+use Rattle.notice.proofs.notice_number.Tie as tie
+
+mul-n : tie.Need-mul-n
+mul-n c = search needs
+
+element-copy-out-n : tie.Need-element-copy-out-n
+element-copy-out-n c = search needs
+
+returns : tie.Need-returns
+unfolding noticeOf parts
+returns c = search flags
+
+mul-d : tie.Need-mul-d
+mul-d c = search needs
+
+element-copy-out-d : tie.Need-element-copy-out-d
+element-copy-out-d c = search needs
+
+returns-2 : tie.Need-returns-2
+unfolding noticeOf parts
+returns-2 c = search flags
+
+told-at-requires : tie.Need-told-at-requires
+told-at-requires c κs = search needs
+
+returns-3 : tie.Need-returns-3
+unfolding noticeOf parts
+returns-3 c = rw (← c .before .told-at .ensures) (search flags)
+
+returns-4 : tie.Need-returns-4
+unfolding noticeOf parts
+returns-4 c = rw (← c .before .told-at .ensures) (search flags)
+
+pub notice-number-spec : {M : Type 1} → statement M
+notice-number-spec = tie.close (tie.spec mul-n element-copy-out-n returns mul-d element-copy-out-d returns-2 told-at-requires returns-3 returns-4)

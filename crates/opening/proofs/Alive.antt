@@ -1,0 +1,31 @@
+-- Bringing the first machines of a table to life, one after another, in a table without machines: they are those of a fresh table.
+-- Assumes nothing.
+use Prim.Native.Nat.{ℕ, zero, suc, _≤_}
+use mathlib.Core.Path.{_≡_, refl, ap, _∙_}
+use mathlib.Core.List.{List}
+use native.Mathlib.Numerals.{add-one}
+use native.Mathlib.Omega.{arith}
+use lib.ListN.{replicate, set}
+use Rattle.lists.specs.Scan.{upTo}
+use Rattle.lists.proofs.Scans.{list-none, list-more}
+use Rattle.pricer.specs.declared.Bond.{Bond}
+use Rattle.table.specs.declared.Machine.{Machine}
+use Rattle.table.specs.declared.Table.{Table}
+use Rattle.table.specs.Views.{noMachine, withNode}
+use Rattle.opening.specs.Opening.{blank, quiet, nodesOf}
+
+-- machine k comes alive
+abbrev pub revive : ℕ → Table → Table
+revive k u = withNode u k (quiet 1)
+
+module _ (m n : ℕ) (bs : List Bond) where
+  revive-blank : (k : ℕ) (ns : List Machine) → revive k (blank m n bs ns) ≡ blank m n bs (set ns k (quiet 1))
+  unfolding blank withNode
+  revive-blank k ns = refl
+
+  pub alive-first : (k : ℕ) → k ≤ 16 → upTo revive k (blank m n bs (replicate 16 noMachine)) ≡ blank m n bs (nodesOf k)
+  unfolding upTo nodesOf
+  alive-first zero h = ap (blank m n bs) (list-none (λ i. quiet 1) 16 noMachine)
+  alive-first (suc k) h =
+      let more = list-more (λ i. quiet 1) 16 noMachine k (nodesOf k) (omega arith) refl in
+      ap (revive k) (alive-first k (omega arith)) ∙ revive-blank k (nodesOf k) ∙ ap (blank m n bs) (rw add-one at more)

@@ -1,0 +1,60 @@
+-- `opening::with_machines` meets its contract. The loop keeps: the machines passed so far are alive.
+-- Assumes nothing.
+use Rattle.lists.proofs.Rules.{tests}
+use Prim.Native.Nat.{_≤_, _-_}
+use mathlib.Core.Path.{_≡_, ap, _∙_}
+use Rattle.lists.proofs.Scans.{up-none, up-more, up-end}
+use Rattle.lists.specs.Scan.{upTo}
+use Rattle.table.specs.declared.Machine.{Machine}
+use Rattle.table.specs.Views.{withNode, parts}
+use Rattle.opening.proofs.Alive.{revive}
+use Rattle.opening.proofs.with_machines.Statement.{statement}
+use Rattle.opening.proofs.with_machines.Tie as tie
+
+abbrev Inv-loop : tie.InvT-loop
+Inv-loop m n u₀ i₀ u i = (m ≤ 16) × (i ≤ n) × (u ≡ upTo revive i u₀)
+
+abbrev μ-loop : tie.MeasureT-loop
+μ-loop m n u₀ i₀ u i = n - i
+
+loop-holds : tie.Need-loop-holds Inv-loop μ-loop
+loop-holds c = (search tests, search tests, up-none revive _)
+
+machine-requires : tie.Need-machine-requires Inv-loop μ-loop
+machine-requires c κs = search tests
+
+mul-t8 : tie.Need-mul-t8 Inv-loop μ-loop
+mul-t8 c = search tests
+
+element-set-from-u : tie.Need-element-set-from-u Inv-loop μ-loop
+element-set-from-u c = search tests
+
+add-i : tie.Need-add-i Inv-loop μ-loop
+add-i c = search tests
+
+loop-less : tie.Need-loop-less Inv-loop μ-loop
+loop-less c = search tests
+
+loop-again : tie.Need-loop-again Inv-loop μ-loop
+unfolding parts
+loop-again c =
+    let l = c .before .before .loop in
+    (l .inv .0, search tests, ap (λ (x : Machine). withNode (l .u) (l .i) x) (c .machine .ensures) ∙ up-more revive _ _ _ (l .inv .2))
+
+returns : tie.Need-returns Inv-loop μ-loop
+returns c = up-end revive _ _ _ _ (search tests) (search tests) (c .before .loop .inv .2)
+
+pub with-machines-spec : {M : Type 1} → statement M
+with-machines-spec =
+    tie.close
+    (tie.spec
+    Inv-loop
+    μ-loop
+    loop-holds
+    machine-requires
+    mul-t8
+    element-set-from-u
+    add-i
+    loop-less
+    loop-again
+    returns)

@@ -1,0 +1,44 @@
+-- `steal::steal_number` meets its contract. The five refusals come in the order of the definition.
+-- Assumes nothing.
+use borrow.Author.Needs.{needs}
+use Rattle.lists.proofs.Rules.{flags}
+use Rattle.table.specs.Views.{parts}
+use Rattle.steal.specs.Steal.{stealOf}
+use Rattle.steal.proofs.steal_number.Statement.{statement}
+use Rattle.steal.proofs.steal_number.Tie as tie
+
+mul-n : tie.Need-mul-n
+mul-n c = search needs
+
+element-copy-out-n : tie.Need-element-copy-out-n
+element-copy-out-n c = search needs
+
+returns : tie.Need-returns
+unfolding stealOf parts
+returns c = search flags
+
+returns-2 : tie.Need-returns-2
+unfolding stealOf parts
+returns-2 c = search flags
+
+returns-3 : tie.Need-returns-3
+unfolding stealOf parts
+returns-3 c = search flags
+
+told-at-requires : tie.Need-told-at-requires
+told-at-requires c κs = search needs
+
+returns-4 : tie.Need-returns-4
+unfolding stealOf parts
+returns-4 c = rw (← c .before .told-at .ensures) (search flags)
+
+returns-5 : tie.Need-returns-5
+unfolding stealOf parts
+returns-5 c = rw (← c .before .before .told-at .ensures) (search flags)
+
+returns-6 : tie.Need-returns-6
+unfolding stealOf parts
+returns-6 c = rw (← c .before .before .told-at .ensures) (search flags)
+
+pub steal-number-spec : {M : Type 1} → statement M
+steal-number-spec = tie.close (tie.spec mul-n element-copy-out-n returns returns-2 returns-3 told-at-requires returns-4 returns-5 returns-6)
