@@ -35,9 +35,6 @@ module _ (t : Table) (a : ℕ) (h : a < t .entries) where
       byBool (not (eqb state 0)) (λ e. rw (e, admitOf) (refused 13 (λ z. omega arith)))
       (λ e. rw (e, admitOf) (f (record { entry = h; new = eqb-true state 0 (not-false _ e) })))
 
-  pub admit-refused : admitOf t a .number ≢ 0 → refuse (admitOf t a .number) t ≡ admitOf t a
-  admit-refused = by-admit (λ x. x .number ≢ 0 → refuse (x .number) t ≡ x) (λ n d e. refl) (λ s e. absurd (e refl))
-
   pub admit-accepted : admitOf t a .number ≡ 0 → Admitting t a × (accept (admitted t a) ≡ admitOf t a)
   admit-accepted = by-admit (λ x. x .number ≡ 0 → Admitting t a × (accept (admitted t a) ≡ x)) (λ n d e. absurd (d e)) (λ s e. (s, refl))
 
@@ -47,9 +44,6 @@ module _ (t : Table) (a b : ℕ) where
   by-deliver P refused f =
       byBool (leb (t .«in_flight») (oldest t a b)) (λ e. rw (e, deliverOf) (refused 15 (λ z. omega arith)))
       (λ e. rw (e, deliverOf) (f (record { slot = leb-false (t .«in_flight») (oldest t a b) e })))
-
-  pub deliver-refused : deliverOf t a b .number ≢ 0 → refuse (deliverOf t a b .number) t ≡ deliverOf t a b
-  deliver-refused = by-deliver (λ x. x .number ≢ 0 → refuse (x .number) t ≡ x) (λ n d e. refl) (λ s e. absurd (e refl))
 
   pub deliver-accepted : deliverOf t a b .number ≡ 0 → Delivering t a b × (accept (delivered t (oldest t a b)) ≡ deliverOf t a b)
   deliver-accepted = by-deliver (λ x. x .number ≡ 0 → Delivering t a b × (accept (delivered t (oldest t a b)) ≡ x)) (λ n d e. absurd (d e)) (λ s e. (s, refl))
@@ -61,9 +55,6 @@ module _ (t : Table) (a : ℕ) (h : a < t .machines) where
       byBool (eqb a 0) (λ e. rw (e, dieOf) (refused 20 (λ z. omega arith)))
       (λ e1. byBool (not (lives t a)) (λ e. rw (e1, e, dieOf) (refused 12 (λ z. omega arith)))
       (λ e2. rw (e1, e2, dieOf) (f (record { machine = h; other = eqb-false a 0 e1; alive = eqb-true _ 1 (not-false (lives t a) e2) }))))
-
-  pub die-refused : dieOf t a .number ≢ 0 → refuse (dieOf t a .number) t ≡ dieOf t a
-  die-refused = by-die (λ x. x .number ≢ 0 → refuse (x .number) t ≡ x) (λ n d e. refl) (λ s e. absurd (e refl))
 
   pub die-accepted : dieOf t a .number ≡ 0 → Dying t a × (accept (died t a) ≡ dieOf t a)
   die-accepted = by-die (λ x. x .number ≡ 0 → Dying t a × (accept (died t a) ≡ x)) (λ n d e. absurd (d e)) (λ s e. (s, refl))

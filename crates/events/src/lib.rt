@@ -7,7 +7,6 @@ ghost use Prim.Native.Nat.{_<_, _≤_};
 ghost use Rattle.table.specs.Messages.{oldest};
 ghost use Rattle.messages.specs.Needs.{Ready};
 ghost use Rattle.events.specs.Events.{admitted, admitOf, delivered, deliverOf, died, dieOf};
-use table::Answer;
 use table::Machine;
 use table::Table;
 
@@ -29,23 +28,6 @@ pub fn admitted(t: Table, a: u8) -> Table
     ensures { λ r. ⌜ r ≡ admitted t a ⌝ }
 {
     pools::open_on_root(t, a as usize, 1)
-}
-
-// Event 1.
-pub fn admit(t: Table, a: u8) -> Answer
-    requires { ⌜ Ready t ⌝ }
-    requires { ⌜ a < t .entries ⌝ }
-    ensures { λ r. ⌜ r ≡ admitOf t a ⌝ }
-{
-    let n = admit_number(t, a);
-    if n != 0 {
-        return table::refuse(n, t);
-    }
-    let opened = admitted(t, a);
-    Answer {
-        number: 0,
-        table: opened,
-    }
 }
 
 // Event 3: its number.
@@ -71,22 +53,6 @@ pub fn delivered(t: Table, a: u8, b: u8) -> Table
     let m = t.messages[k];
     let u = messages::pull(t, k);
     handlers::handle(u, m)
-}
-
-// Event 3.
-pub fn deliver(t: Table, a: u8, b: u8) -> Answer
-    requires { ⌜ Ready t ⌝ }
-    ensures { λ r. ⌜ r ≡ deliverOf t a b ⌝ }
-{
-    let n = deliver_number(t, a, b);
-    if n != 0 {
-        return table::refuse(n, t);
-    }
-    let handled = delivered(t, a, b);
-    Answer {
-        number: 0,
-        table: handled,
-    }
 }
 
 // Event 6: its number.
@@ -120,21 +86,4 @@ pub fn died(t: Table, a: u8) -> Table
         waits: 0,
     };
     messages::drop_to(u, a)
-}
-
-// Event 6.
-pub fn die(t: Table, a: u8) -> Answer
-    requires { ⌜ Ready t ⌝ }
-    requires { ⌜ a < t .machines ⌝ }
-    ensures { λ r. ⌜ r ≡ dieOf t a ⌝ }
-{
-    let n = die_number(t, a);
-    if n != 0 {
-        return table::refuse(n, t);
-    }
-    let u = died(t, a);
-    Answer {
-        number: 0,
-        table: u,
-    }
 }

@@ -31,8 +31,5 @@ module _ (t : Table) (a b : ℕ) (h : a < t .machines) (k : b < t .machines) whe
       (λ e3. rw (e1, e2, e3, noticeOf)
       (f (record { machine = h; named = k; alive = eqb-true _ 1 (not-false (lives t a) e1); dead = eqb-false (nodeAt t b .alive) 1 e2; new = eqb-true (toldAt t a b) 0 (not-false _ e3) })))))
 
-  pub notice-refused : noticeOf t a b .number ≢ 0 → refuse (noticeOf t a b .number) t ≡ noticeOf t a b
-  notice-refused = by-notice (λ x. x .number ≢ 0 → refuse (x .number) t ≡ x) (λ n d e. refl) (λ s e. absurd (e refl))
-
   pub notice-accepted : noticeOf t a b .number ≡ 0 → Noticing t a b × (accept (noticed t a b) ≡ noticeOf t a b)
   notice-accepted = by-notice (λ x. x .number ≡ 0 → Noticing t a b × (accept (noticed t a b) ≡ x)) (λ n d e. absurd (d e)) (λ s e. (s, refl))

@@ -4,7 +4,6 @@ ghost use Prim.Native.Nat.{ℕ, _<_, _≤_};
 ghost use Rattle.table.specs.Views.{jobAt, nodeAt};
 ghost use Rattle.messages.specs.Needs.{Ready};
 ghost use Rattle.notice.specs.Notice.{informed, unwaited, reclaimed, quieted, lost, reissue, noticed, noticeOf};
-use table::Answer;
 use table::Job;
 use table::Table;
 
@@ -114,21 +113,4 @@ pub fn notice_number(t: Table, a: u8, b: u8) -> u8
         return 22;
     }
     0
-}
-
-// Event 7.
-pub fn notice(t: Table, a: u8, b: u8) -> Answer
-    requires { ⌜ Ready t ⌝ }
-    requires { ⌜ (a < t .machines) × (b < t .machines) ⌝ }
-    ensures { λ r. ⌜ r ≡ noticeOf t a b ⌝ }
-{
-    let n = notice_number(t, a, b);
-    if n != 0 {
-        return table::refuse(n, t);
-    }
-    let u = noticed(t, a, b);
-    Answer {
-        number: 0,
-        table: u,
-    }
 }

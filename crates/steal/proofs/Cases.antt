@@ -33,8 +33,5 @@ module _ (t : Table) (a b : ℕ) (h : a < t .machines) (k : b < t .machines) whe
       (λ e5. rw (e1, e2, e3, e4, e5, stealOf)
       (f (record { machine = h; victim = k; alive = eqb-true _ 1 (not-false (lives t a) e1); untold = eqb-true (toldAt t a b) 0 (not-false _ e4); room = leb-false 128 (t .«in_flight») e5 })))))))
 
-  pub steal-refused : stealOf t a b .number ≢ 0 → refuse (stealOf t a b .number) t ≡ stealOf t a b
-  steal-refused = by-steal (λ x. x .number ≢ 0 → refuse (x .number) t ≡ x) (λ n d e. refl) (λ s e. absurd (e refl))
-
   pub steal-accepted : stealOf t a b .number ≡ 0 → Stealing t a b × (accept (stolen t a b) ≡ stealOf t a b)
   steal-accepted = by-steal (λ x. x .number ≡ 0 → Stealing t a b × (accept (stolen t a b) ≡ x)) (λ n d e. absurd (d e)) (λ s e. (s, refl))

@@ -2,9 +2,7 @@
 // where that number is 0.
 ghost use mathlib.Core.Path.{_≡_};
 ghost use Prim.Native.Nat.{_<_};
-ghost use Rattle.messages.specs.Needs.{Ready};
 ghost use Rattle.steal.specs.Steal.{stolen, stealOf};
-use table::Answer;
 use table::Message;
 use table::Table;
 
@@ -56,21 +54,4 @@ pub fn stolen(t: Table, a: u8, b: u8) -> Table
             price: 0,
         },
     )
-}
-
-// Event 2.
-pub fn steal(t: Table, a: u8, b: u8) -> Answer
-    requires { ⌜ Ready t ⌝ }
-    requires { ⌜ (a < t .machines) × (b < t .machines) ⌝ }
-    ensures { λ r. ⌜ r ≡ stealOf t a b ⌝ }
-{
-    let n = steal_number(t, a, b);
-    if n != 0 {
-        return table::refuse(n, t);
-    }
-    let u = stolen(t, a, b);
-    Answer {
-        number: 0,
-        table: u,
-    }
 }

@@ -38,9 +38,6 @@ module _ (t : Table) (a b : ℕ) (h : a < t .machines) (k : b < t .entries) wher
       (λ e3. rw (e1, e2, e3, startOf)
       (f (record { machine = h; entry = k; alive = eqb-true _ 1 (not-false (lives t a) e1); idle = eqb-true r 0 (not-false _ e2); pooled = eqb-false (poolAt t a b) 0 e3 })))))
 
-  pub start-refused : startOf t a b .number ≢ 0 → refuse (startOf t a b .number) t ≡ startOf t a b
-  start-refused = by-start (λ x. x .number ≢ 0 → refuse (x .number) t ≡ x) (λ n d e. refl) (λ s e. absurd (e refl))
-
   pub start-accepted : startOf t a b .number ≡ 0 → Starting t a b × (accept (started t a b) ≡ startOf t a b)
   start-accepted = by-start (λ x. x .number ≡ 0 → Starting t a b × (accept (started t a b) ≡ x)) (λ n d e. absurd (d e)) (λ s e. (s, refl))
 
@@ -54,9 +51,6 @@ module _ (t : Table) (a : ℕ) (h : a < t .machines) where
       (λ e2. byBool (leb 128 (t .«in_flight»)) (λ e. rw (e1, e2, e, doneOf) (refused 16 (λ z. omega arith)))
       (λ e3. rw (e1, e2, e3, doneOf)
       (f (record { machine = h; alive = eqb-true _ 1 (not-false (lives t a) e1); runs = eqb-false r 0 e2; room = leb-false 128 (t .«in_flight») e3 })))))
-
-  pub done-refused : doneOf t a .number ≢ 0 → refuse (doneOf t a .number) t ≡ doneOf t a
-  done-refused = by-done (λ x. x .number ≢ 0 → refuse (x .number) t ≡ x) (λ n d e. refl) (λ s e. absurd (e refl))
 
   pub done-accepted : doneOf t a .number ≡ 0 → Finishing t a × (accept (finished t a) ≡ doneOf t a)
   done-accepted = by-done (λ x. x .number ≡ 0 → Finishing t a × (accept (finished t a) ≡ x)) (λ n d e. absurd (d e)) (λ s e. (s, refl))

@@ -3,9 +3,7 @@
 ghost use mathlib.Core.Path.{_≡_};
 ghost use Prim.Native.Nat.{_<_};
 ghost use Rattle.table.specs.Views.{nodeAt};
-ghost use Rattle.messages.specs.Needs.{Ready};
 ghost use Rattle.work.specs.Work.{started, startOf, finished, doneOf};
-use table::Answer;
 use table::Message;
 use table::Table;
 
@@ -41,23 +39,6 @@ pub fn started(t: Table, a: u8, b: u8) -> Table
     u.pools[i] = 0;
     u.nodes[a as usize] = n;
     u
-}
-
-// Event 4.
-pub fn start(t: Table, a: u8, b: u8) -> Answer
-    requires { ⌜ Ready t ⌝ }
-    requires { ⌜ (a < t .machines) × (b < t .entries) ⌝ }
-    ensures { λ r. ⌜ r ≡ startOf t a b ⌝ }
-{
-    let n = start_number(t, a, b);
-    if n != 0 {
-        return table::refuse(n, t);
-    }
-    let u = started(t, a, b);
-    Answer {
-        number: 0,
-        table: u,
-    }
 }
 
 // Event 5: its number.
@@ -105,21 +86,4 @@ pub fn finished(t: Table, a: u8) -> Table
             price: bits,
         },
     )
-}
-
-// Event 5.
-pub fn done(t: Table, a: u8) -> Answer
-    requires { ⌜ Ready t ⌝ }
-    requires { ⌜ a < t .machines ⌝ }
-    ensures { λ r. ⌜ r ≡ doneOf t a ⌝ }
-{
-    let n = done_number(t, a);
-    if n != 0 {
-        return table::refuse(n, t);
-    }
-    let u = finished(t, a);
-    Answer {
-        number: 0,
-        table: u,
-    }
 }
