@@ -173,6 +173,15 @@ fn row(machines: u8, count: usize) {
     );
 }
 
+/// The book and the events of a row as the files that the program reads.
+pub fn write_load(folder: &str, machines: u8, count: usize) {
+    let book = book(machines);
+    let fresh = Table::open(&Book::read(&book).expect("an accepted book"));
+    std::fs::write(format!("{folder}/book.bin"), &book).expect("the folder is there");
+    std::fs::write(format!("{folder}/events.bin"), event_list(&fresh, machines, count))
+        .expect("the folder is there");
+}
+
 pub fn table(sizes: &[(u8, usize)]) {
     println!("| machines | events | page | kept step | kept check | Rust, check 9 | Rust | Rust, page | page / Rust, check 9 | kept step / Rust, check 9 | events a second, page |");
     println!("|---|---|---|---|---|---|---|---|---|---|---|");
