@@ -15,7 +15,8 @@ pub fn admit_number(t: Table, a: u8) -> u8
     requires { ⌜ a < 64 ⌝ }
     ensures { λ r. ⌜ r ≡ admitOf t a .number ⌝ }
 {
-    let job = t.jobs[a as usize];
+    let jobs = t.jobs;
+    let job = jobs[a as usize];
     if job.state != 0 {
         return 13;
     }
@@ -50,7 +51,8 @@ pub fn delivered(t: Table, a: u8, b: u8) -> Table
     ensures { λ r. ⌜ r ≡ delivered t (oldest t a b) ⌝ }
 {
     let k = messages::oldest(t, a, b);
-    let m = t.messages[k];
+    let messages = t.messages;
+    let m = messages[k];
     let u = messages::pull(t, k);
     handlers::handle(u, m)
 }
@@ -63,7 +65,8 @@ pub fn die_number(t: Table, a: u8) -> u8
     if a == 0 {
         return 20;
     }
-    let n = t.nodes[a as usize];
+    let nodes = t.nodes;
+    let n = nodes[a as usize];
     if n.alive != 1 {
         return 12;
     }

@@ -13,15 +13,14 @@ pub fn send(t: Table, m: Message) -> Table
     requires { ⌜ m .to < 16 ⌝ }
     ensures { λ r. ⌜ r ≡ send t m ⌝ }
 {
-    let to = m.to as usize;
-    let node = t.nodes[to];
-    if node.alive != 1 {
-        return t;
-    }
-    let n = t.in_flight as usize;
     let mut u = t;
-    u.messages[n] = m;
-    u.in_flight = t.in_flight + 1;
+    let to = m.to as usize;
+    let node = u.nodes[to];
+    if node.alive == 1 {
+        let n = u.in_flight as usize;
+        u.messages[n] = m;
+        u.in_flight = u.in_flight + 1;
+    }
     u
 }
 
@@ -38,9 +37,10 @@ pub fn oldest(t: Table, a: u8, b: u8) -> usize
     ensures { λ r. ⌜ r ≡ oldest t a b ⌝ }
 {
     let n = t.in_flight as usize;
+    let messages = t.messages;
     let mut i: usize = 0;
     while i < n {
-        let m = t.messages[i];
+        let m = messages[i];
         if in_channel(m, a, b) {
             return i;
         }

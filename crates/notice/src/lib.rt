@@ -23,13 +23,12 @@ fn unwaited(t: Table, a: u8, b: u8) -> Table
     ensures { λ r. ⌜ r ≡ unwaited t a b ⌝ }
 {
     let i = a as usize;
-    let mut n = t.nodes[i];
-    if n.waits != b + 1 {
-        return t;
-    }
-    n.waits = 0;
     let mut u = t;
-    u.nodes[i] = n;
+    let mut n = u.nodes[i];
+    if n.waits == b + 1 {
+        n.waits = 0;
+        u.nodes[i] = n;
+    }
     u
 }
 
@@ -39,7 +38,8 @@ fn reclaimed(t: Table, a: u8, b: u8) -> Table
     ensures { λ r. ⌜ r ≡ reclaimed t a b ⌝ }
 {
     let i = a as usize;
-    let n = t.nodes[i];
+    let nodes = t.nodes;
+    let n = nodes[i];
     if (n.reserved_replica != 0) & (n.reserved_thief == b) {
         return pools::returned(t, i);
     }
@@ -100,11 +100,12 @@ pub fn notice_number(t: Table, a: u8, b: u8) -> u8
     requires { ⌜ (a < 16) × (b < 16) ⌝ }
     ensures { λ r. ⌜ r ≡ noticeOf t a b .number ⌝ }
 {
-    let n = t.nodes[a as usize];
+    let nodes = t.nodes;
+    let n = nodes[a as usize];
     if n.alive != 1 {
         return 12;
     }
-    let d = t.nodes[b as usize];
+    let d = nodes[b as usize];
     if d.alive == 1 {
         return 21;
     }

@@ -22,10 +22,10 @@ pub fn enter(t: Table, m: usize, j: usize, r: u8) -> Table
     requires { ⌜ (m < 16) × (j < 64) ⌝ }
     ensures { λ u. ⌜ u ≡ enter t m j r ⌝ }
 {
-    let i = m * 64 + j;
-    let x = t.pools[i];
-    let y = larger(x, r);
     let mut u = t;
+    let i = m * 64 + j;
+    let x = u.pools[i];
+    let y = larger(x, r);
     u.pools[i] = y;
     u
 }
@@ -53,9 +53,10 @@ pub fn lowest(t: Table, m: usize) -> usize
     ensures { λ r. ⌜ r ≡ lowest t m ⌝ }
 {
     let base = m * 64;
+    let pools = t.pools;
     let mut j: usize = 0;
     while j < 64 {
-        let x = t.pools[base + j];
+        let x = pools[base + j];
         if x != 0 {
             return j;
         }
@@ -84,7 +85,8 @@ pub fn returned(t: Table, m: usize) -> Table
     requires { ⌜ (m < 16) × (nodeAt t m .«reserved_job» < 64) ⌝ }
     ensures { λ r. ⌜ r ≡ returned t m ⌝ }
 {
-    let mut n = t.nodes[m];
+    let nodes = t.nodes;
+    let mut n = nodes[m];
     let mut u = enter(t, m, n.reserved_job as usize, n.reserved_replica);
     n.reserved_job = 0;
     n.reserved_replica = 0;
@@ -98,5 +100,6 @@ pub fn told_at(t: Table, m: usize, d: usize) -> u8
     requires { ⌜ (m < 16) × (d < 16) ⌝ }
     ensures { λ r. ⌜ r ≡ toldAt t m d ⌝ }
 {
-    t.told[m * 16 + d]
+    let told = t.told;
+    told[m * 16 + d]
 }

@@ -32,19 +32,19 @@ pub fn on_req(t: Table, m: Message) -> Table
     requires { ⌜ Within m ⌝ }
     ensures { λ r. ⌜ r ≡ onReq t m ⌝ }
 {
+    let mut u = t;
     let j = m.job as usize;
-    let mut job = t.jobs[j];
+    let mut job = u.jobs[j];
     if (job.state == 2) | (job.replica != m.replica) {
-        return reply(t, m, table::OBSOLETE);
+        return reply(u, m, table::OBSOLETE);
     }
-    let told = pools::told_at(t, 0, m.thief as usize);
+    let told = pools::told_at(u, 0, m.thief as usize);
     if (told != 0) | (job.moving != 0) {
-        return reply(t, m, table::DENIED);
+        return reply(u, m, table::DENIED);
     }
     job.moving = 1;
     job.holder = m.from;
     job.thief = m.thief;
-    let mut u = t;
     u.jobs[j] = job;
     reply(u, m, table::AUTH)
 }
@@ -55,16 +55,15 @@ pub fn on_ack(t: Table, m: Message) -> Table
     ensures { λ r. ⌜ r ≡ onAck t m ⌝ }
 {
     let j = m.job as usize;
-    let mut job = t.jobs[j];
+    let mut u = t;
+    let mut job = u.jobs[j];
     if (job.state == 1) & (job.replica == m.replica) {
         job.moving = 0;
         job.holder = m.from;
         job.thief = 0;
-        let mut u = t;
         u.jobs[j] = job;
-        return u;
     }
-    t
+    u
 }
 
 // An open job becomes priced with this price.
@@ -73,13 +72,12 @@ pub fn on_result(t: Table, m: Message) -> Table
     ensures { λ r. ⌜ r ≡ onResult t m ⌝ }
 {
     let j = m.job as usize;
-    let mut job = t.jobs[j];
+    let mut u = t;
+    let mut job = u.jobs[j];
     if job.state == 1 {
         job.state = 2;
         job.price = m.price;
-        let mut u = t;
         u.jobs[j] = job;
-        return u;
     }
-    t
+    u
 }

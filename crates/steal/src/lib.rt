@@ -11,7 +11,8 @@ pub fn steal_number(t: Table, a: u8, b: u8) -> u8
     requires { ⌜ (a < 16) × (b < 16) ⌝ }
     ensures { λ r. ⌜ r ≡ stealOf t a b .number ⌝ }
 {
-    let n = t.nodes[a as usize];
+    let nodes = t.nodes;
+    let n = nodes[a as usize];
     if n.alive != 1 {
         return 12;
     }
@@ -38,9 +39,9 @@ pub fn stolen(t: Table, a: u8, b: u8) -> Table
     requires { ⌜ t .«in_flight» < 128 ⌝ }
     ensures { λ r. ⌜ r ≡ stolen t a b ⌝ }
 {
-    let mut n = t.nodes[a as usize];
-    n.waits = b + 1;
     let mut u = t;
+    let mut n = u.nodes[a as usize];
+    n.waits = b + 1;
     u.nodes[a as usize] = n;
     messages::send(
         u,

@@ -13,7 +13,8 @@ pub fn on_schedule(t: Table, m: Message) -> Table
     ensures { λ r. ⌜ r ≡ onSchedule t m ⌝ }
 {
     let b = m.to as usize;
-    let mut thief = t.nodes[b];
+    let nodes = t.nodes;
+    let mut thief = nodes[b];
     thief.waits = 0;
     let mut u = pools::enter(t, b, m.job as usize, m.replica);
     u.nodes[b] = thief;
@@ -37,9 +38,9 @@ pub fn on_no_work(t: Table, m: Message) -> Table
     ensures { λ r. ⌜ r ≡ onNoWork t m ⌝ }
 {
     let b = m.to as usize;
-    let mut idle = t.nodes[b];
-    idle.waits = 0;
     let mut u = t;
+    let mut idle = u.nodes[b];
+    idle.waits = 0;
     u.nodes[b] = idle;
     u
 }

@@ -36,13 +36,13 @@ fn grant(t: Table, b: u8, th: u8, j: usize) -> Table
     requires { ⌜ (b < 16) × (j < 64) ⌝ }
     ensures { λ r. ⌜ r ≡ grant t b th j ⌝ }
 {
+    let mut u = t;
     let i = (b as usize) * 64 + j;
-    let r = t.pools[i];
-    let mut n = t.nodes[b as usize];
+    let r = u.pools[i];
+    let mut n = u.nodes[b as usize];
     n.reserved_job = j as u8;
     n.reserved_replica = r;
     n.reserved_thief = th;
-    let mut u = t;
     u.pools[i] = 0;
     u.nodes[b as usize] = n;
     messages::send(
@@ -66,7 +66,8 @@ pub fn on_fish(t: Table, m: Message) -> Table
     ensures { λ r. ⌜ r ≡ onFish t m ⌝ }
 {
     let b = m.to as usize;
-    let n = t.nodes[b];
+    let nodes = t.nodes;
+    let n = nodes[b];
     if n.reserved_replica != 0 {
         return no_work(t, m.to, m.from);
     }
@@ -90,11 +91,11 @@ fn released(t: Table, b: usize) -> Table
     requires { ⌜ b < 16 ⌝ }
     ensures { λ r. ⌜ r ≡ withNode t b (release (nodeAt t b)) ⌝ }
 {
-    let mut n = t.nodes[b];
+    let mut u = t;
+    let mut n = u.nodes[b];
     n.reserved_job = 0;
     n.reserved_replica = 0;
     n.reserved_thief = 0;
-    let mut u = t;
     u.nodes[b] = n;
     u
 }
@@ -106,7 +107,8 @@ pub fn on_auth(t: Table, m: Message) -> Table
     ensures { λ r. ⌜ r ≡ onAuth t m ⌝ }
 {
     let b = m.to as usize;
-    let n = t.nodes[b];
+    let nodes = t.nodes;
+    let n = nodes[b];
     if reserves(n, m.job, m.replica, m.thief) {
         let u = released(t, b);
         return messages::send(
@@ -132,7 +134,8 @@ pub fn on_denied(t: Table, m: Message) -> Table
     ensures { λ r. ⌜ r ≡ onDenied t m ⌝ }
 {
     let b = m.to as usize;
-    let n = t.nodes[b];
+    let nodes = t.nodes;
+    let n = nodes[b];
     if reserves(n, m.job, m.replica, m.thief) {
         let back = pools::returned(t, b);
         return no_work(back, m.to, m.thief);
@@ -147,7 +150,8 @@ pub fn on_obsolete(t: Table, m: Message) -> Table
     ensures { λ r. ⌜ r ≡ onObsolete t m ⌝ }
 {
     let b = m.to as usize;
-    let n = t.nodes[b];
+    let nodes = t.nodes;
+    let n = nodes[b];
     if reserves(n, m.job, m.replica, m.thief) {
         let rest = released(t, b);
         return no_work(rest, m.to, m.thief);

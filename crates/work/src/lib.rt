@@ -12,14 +12,16 @@ pub fn start_number(t: Table, a: u8, b: u8) -> u8
     requires { ⌜ (a < 16) × (b < 64) ⌝ }
     ensures { λ r. ⌜ r ≡ startOf t a b .number ⌝ }
 {
-    let n = t.nodes[a as usize];
+    let nodes = t.nodes;
+    let n = nodes[a as usize];
     if n.alive != 1 {
         return 12;
     }
     if n.running_replica != 0 {
         return 17;
     }
-    let r = t.pools[(a as usize) * 64 + (b as usize)];
+    let pools = t.pools;
+    let r = pools[(a as usize) * 64 + (b as usize)];
     if r == 0 {
         return 18;
     }
@@ -31,11 +33,11 @@ pub fn started(t: Table, a: u8, b: u8) -> Table
     requires { ⌜ (a < 16) × (b < 64) ⌝ }
     ensures { λ r. ⌜ r ≡ started t a b ⌝ }
 {
-    let i = (a as usize) * 64 + (b as usize);
-    let mut n = t.nodes[a as usize];
-    n.running_job = b;
-    n.running_replica = t.pools[i];
     let mut u = t;
+    let i = (a as usize) * 64 + (b as usize);
+    let mut n = u.nodes[a as usize];
+    n.running_job = b;
+    n.running_replica = u.pools[i];
     u.pools[i] = 0;
     u.nodes[a as usize] = n;
     u
@@ -46,7 +48,8 @@ pub fn done_number(t: Table, a: u8) -> u8
     requires { ⌜ a < 16 ⌝ }
     ensures { λ r. ⌜ r ≡ doneOf t a .number ⌝ }
 {
-    let n = t.nodes[a as usize];
+    let nodes = t.nodes;
+    let n = nodes[a as usize];
     if n.alive != 1 {
         return 12;
     }
@@ -65,14 +68,14 @@ pub fn finished(t: Table, a: u8) -> Table
     requires { ⌜ t .«in_flight» < 128 ⌝ }
     ensures { λ r. ⌜ r ≡ finished t a ⌝ }
 {
-    let mut n = t.nodes[a as usize];
+    let mut u = t;
+    let mut n = u.nodes[a as usize];
     let j = n.running_job;
     let r = n.running_replica;
-    let bond = t.bonds[j as usize];
+    let bond = u.bonds[j as usize];
     let bits = pricer::price_bits(bond);
     n.running_job = 0;
     n.running_replica = 0;
-    let mut u = t;
     u.nodes[a as usize] = n;
     messages::send(
         u,

@@ -1,20 +1,21 @@
 -- `messages::oldest` meets its contract. The loop keeps: no message passed so far is of the channel.
 -- Assumes nothing.
 use Prim.Native.Nat.{_-_, _≤_}
+use lib.ListN.{getD}
 use mathlib.Core.Path.{_∙_, _≡_, sym}
 use Rattle.lists.proofs.Rules.{tests}
 use Rattle.lists.proofs.Scans.{least-end, least-found, least-more, least-none}
 use Rattle.lists.specs.Scan.{least}
 use Rattle.table.specs.Messages.{chan, oldest}
-use Rattle.table.specs.Views.{messageAt, parts}
+use Rattle.table.specs.Views.{noMessage, parts}
 use Rattle.messages.proofs.oldest.Statement.{statement}
 use Rattle.messages.proofs.oldest.Tie as tie
 
 abbrev Inv-loop : tie.InvT-loop
-Inv-loop a b t n i₀ i = (i ≤ n) × (least (λ k. chan a b (messageAt t k)) i ≡ i)
+Inv-loop a b n messages i₀ i = (i ≤ n) × (least (λ k. chan a b (getD messages k noMessage)) i ≡ i)
 
 abbrev μ-loop : tie.MeasureT-loop
-μ-loop a b t n i₀ i = n - i
+μ-loop a b n messages i₀ i = n - i
 
 cast-n : tie.Need-cast-n Inv-loop μ-loop
 cast-n c = search tests
@@ -25,8 +26,8 @@ loop-holds c = (search tests, least-none _)
 mul-m : tie.Need-mul-m Inv-loop μ-loop
 mul-m c = search tests
 
-element-copy-out-m : tie.Need-element-copy-out-m Inv-loop μ-loop
-element-copy-out-m c = search tests
+array-copy-out-m : tie.Need-array-copy-out-m Inv-loop μ-loop
+array-copy-out-m c = search tests
 
 in-channel-requires : tie.Need-in-channel-requires Inv-loop μ-loop
 in-channel-requires c κs = search tests
@@ -58,7 +59,7 @@ oldest-spec =
     cast-n
     loop-holds
     mul-m
-    element-copy-out-m
+    array-copy-out-m
     in-channel-requires
     returns
     add-i

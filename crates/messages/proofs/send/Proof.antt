@@ -16,10 +16,6 @@ mul-node c = search needs
 element-copy-out-node : tie.Need-element-copy-out-node
 element-copy-out-node c = search needs
 
-returns : tie.Need-returns
-unfolding send push parts
-returns c = search flags
-
 cast-n : tie.Need-cast-n
 cast-n c = search needs
 
@@ -32,6 +28,10 @@ element-set-from-m c = search needs
 add-u : tie.Need-add-u
 add-u c = search needs
 
+returns : tie.Need-returns
+unfolding send push parts
+returns c = search flags
+
 returns-2 : tie.Need-returns-2
 unfolding send push parts
 returns-2 c = search flags
@@ -43,9 +43,9 @@ send-spec =
     cast-to
     mul-node
     element-copy-out-node
-    returns
     cast-n
     mul-m
     element-set-from-m
     add-u
+    returns
     returns-2)

@@ -10,8 +10,8 @@ use Rattle.notice.proofs.notice_number.Tie as tie
 mul-n : tie.Need-mul-n
 mul-n c = search needs
 
-element-copy-out-n : tie.Need-element-copy-out-n
-element-copy-out-n c = search needs
+array-copy-out-n : tie.Need-array-copy-out-n
+array-copy-out-n c = search needs
 
 returns : tie.Need-returns
 unfolding noticeOf parts
@@ -20,8 +20,8 @@ returns c = search flags
 mul-d : tie.Need-mul-d
 mul-d c = search needs
 
-element-copy-out-d : tie.Need-element-copy-out-d
-element-copy-out-d c = search needs
+array-copy-out-d : tie.Need-array-copy-out-d
+array-copy-out-d c = search needs
 
 returns-2 : tie.Need-returns-2
 unfolding noticeOf parts
@@ -39,4 +39,4 @@ unfolding noticeOf parts
 returns-4 c = rw (← c .before .told-at .ensures) (search flags)
 
 pub notice-number-spec : {M : Type 1} → statement M
-notice-number-spec = tie.close (tie.spec mul-n element-copy-out-n returns mul-d element-copy-out-d returns-2 told-at-requires returns-3 returns-4)
+notice-number-spec = tie.close (tie.spec mul-n array-copy-out-n returns mul-d array-copy-out-d returns-2 told-at-requires returns-3 returns-4)

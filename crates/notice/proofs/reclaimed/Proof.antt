@@ -10,8 +10,8 @@ use Rattle.notice.proofs.reclaimed.Tie as tie
 mul-n : tie.Need-mul-n
 mul-n c = search needs
 
-element-copy-out-n : tie.Need-element-copy-out-n
-element-copy-out-n c = search needs
+array-copy-out-n : tie.Need-array-copy-out-n
+array-copy-out-n c = search needs
 
 returned-requires : tie.Need-returned-requires
 unfolding parts
@@ -26,4 +26,4 @@ unfolding reclaimed parts
 returns-2 c = rw (c .if1 .left)
 
 pub reclaimed-spec : {M : Type 1} → statement M
-reclaimed-spec = tie.close (tie.spec mul-n element-copy-out-n returned-requires returns returns-2)
+reclaimed-spec = tie.close (tie.spec mul-n array-copy-out-n returned-requires returns returns-2)

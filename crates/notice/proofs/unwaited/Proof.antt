@@ -17,15 +17,15 @@ element-copy-out-n c = search needs
 add-if1 : tie.Need-add-if1
 add-if1 c = search needs
 
-returns : tie.Need-returns
-unfolding unwaited pieces parts
-returns c = search flags
-
 mul-n-2 : tie.Need-mul-n-2
 mul-n-2 c = search needs
 
 element-set-from-n : tie.Need-element-set-from-n
 element-set-from-n c = search needs
+
+returns : tie.Need-returns
+unfolding unwaited pieces parts
+returns c = search flags
 
 returns-2 : tie.Need-returns-2
 unfolding unwaited pieces parts
@@ -34,4 +34,4 @@ returns-2 c = search flags
 pub unwaited-spec : {M : Type 1} → statement M
 unwaited-spec =
     tie.close
-    (tie.spec mul-n element-copy-out-n add-if1 returns mul-n-2 element-set-from-n returns-2)
+    (tie.spec mul-n element-copy-out-n add-if1 mul-n-2 element-set-from-n returns returns-2)

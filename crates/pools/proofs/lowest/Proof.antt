@@ -1,23 +1,24 @@
 -- `pools::lowest` meets its contract. The loop keeps: no job passed so far is in the pool.
 -- Assumes nothing.
-use Prim.Native.Nat.{_-_, _≤_}
+use Prim.Native.Nat.{_+_, _*_, _-_, _≤_}
 use borrow.Author.Tests.{eq-eqb, ne-eqb}
 use lib.Dec.{eqb}
+use lib.ListN.{getD}
 use mathlib.Core.Bool.{not}
 use mathlib.Core.Path.{_≡_, ap, sym}
 use Rattle.lists.proofs.Rules.{tests}
 use Rattle.lists.proofs.Scans.{least-end, least-found, least-more, least-none}
 use Rattle.lists.specs.Scan.{least}
 use Rattle.table.specs.Messages.{lowest}
-use Rattle.table.specs.Views.{parts, poolAt}
+use Rattle.table.specs.Views.{parts}
 use Rattle.pools.proofs.lowest.Statement.{statement}
 use Rattle.pools.proofs.lowest.Tie as tie
 
 abbrev Inv-loop : tie.InvT-loop
-Inv-loop m t base j₀ j = (j ≤ 64) × (least (λ k. not (eqb (poolAt t m k) 0)) j ≡ j)
+Inv-loop m base pools j₀ j = (j ≤ 64) × (least (λ k. not (eqb (getD pools (m * 64 + k) 0) 0)) j ≡ j)
 
 abbrev μ-loop : tie.MeasureT-loop
-μ-loop m t base j₀ j = 64 - j
+μ-loop m base pools j₀ j = 64 - j
 
 mul-base : tie.Need-mul-base Inv-loop μ-loop
 mul-base c = search tests
@@ -28,8 +29,8 @@ loop-holds c = (search tests, least-none _)
 add-x : tie.Need-add-x Inv-loop μ-loop
 add-x c = search tests
 
-element-copy-out-x : tie.Need-element-copy-out-x Inv-loop μ-loop
-element-copy-out-x c = search tests
+array-read-x : tie.Need-array-read-x Inv-loop μ-loop
+array-read-x c = search tests
 
 returns : tie.Need-returns Inv-loop μ-loop
 unfolding lowest parts
@@ -58,7 +59,7 @@ lowest-spec =
     mul-base
     loop-holds
     add-x
-    element-copy-out-x
+    array-read-x
     returns
     add-j
     loop-less

@@ -10,8 +10,8 @@ use Rattle.pools.proofs.returned.Tie as tie
 mul-n : tie.Need-mul-n
 mul-n c = search needs
 
-element-copy-out-n : tie.Need-element-copy-out-n
-element-copy-out-n c = search needs
+array-copy-out-n : tie.Need-array-copy-out-n
+array-copy-out-n c = search needs
 
 cast-enter : tie.Need-cast-enter
 cast-enter c = search needs
@@ -35,7 +35,7 @@ returned-spec =
     tie.close
     (tie.spec
     mul-n
-    element-copy-out-n
+    array-copy-out-n
     cast-enter
     enter-requires
     mul-n-2

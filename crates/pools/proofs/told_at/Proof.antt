@@ -12,12 +12,12 @@ mul-result c = search needs
 add-result : tie.Need-add-result
 add-result c = search needs
 
-element-copy-out-result : tie.Need-element-copy-out-result
-element-copy-out-result c = search needs
+array-read-result : tie.Need-array-read-result
+array-read-result c = search needs
 
 returns : tie.Need-returns
 unfolding parts
 returns c = search flags
 
 pub told-at-spec : {M : Type 1} → statement M
-told-at-spec = tie.close (tie.spec mul-result add-result element-copy-out-result returns)
+told-at-spec = tie.close (tie.spec mul-result add-result array-read-result returns)

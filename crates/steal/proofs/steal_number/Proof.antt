@@ -10,8 +10,8 @@ use Rattle.steal.proofs.steal_number.Tie as tie
 mul-n : tie.Need-mul-n
 mul-n c = search needs
 
-element-copy-out-n : tie.Need-element-copy-out-n
-element-copy-out-n c = search needs
+array-copy-out-n : tie.Need-array-copy-out-n
+array-copy-out-n c = search needs
 
 returns : tie.Need-returns
 unfolding stealOf parts
@@ -41,4 +41,4 @@ unfolding stealOf parts
 returns-6 c = rw (← c .before .before .told-at .ensures) (search flags)
 
 pub steal-number-spec : {M : Type 1} → statement M
-steal-number-spec = tie.close (tie.spec mul-n element-copy-out-n returns returns-2 returns-3 told-at-requires returns-4 returns-5 returns-6)
+steal-number-spec = tie.close (tie.spec mul-n array-copy-out-n returns returns-2 returns-3 told-at-requires returns-4 returns-5 returns-6)

@@ -14,8 +14,8 @@ cast-b c = search needs
 mul-thief : tie.Need-mul-thief
 mul-thief c = search needs
 
-element-copy-out-thief : tie.Need-element-copy-out-thief
-element-copy-out-thief c = search needs
+array-copy-out-thief : tie.Need-array-copy-out-thief
+array-copy-out-thief c = search needs
 
 cast-enter : tie.Need-cast-enter
 cast-enter c = search needs
@@ -43,7 +43,7 @@ on-schedule-spec =
     (tie.spec
     cast-b
     mul-thief
-    element-copy-out-thief
+    array-copy-out-thief
     cast-enter
     enter-requires
     mul-thief-2

@@ -35,8 +35,8 @@ mul-n-2 c = search needs
 element-set-from-n : tie.Need-element-set-from-n
 element-set-from-n c = search needs
 
-cast-t14 : tie.Need-cast-t14
-cast-t14 c = search needs
+cast-t13 : tie.Need-cast-t13
+cast-t13 c = search needs
 
 send-requires : tie.Need-send-requires
 send-requires c κs = search needs
@@ -58,6 +58,6 @@ grant-spec =
     element-write-u
     mul-n-2
     element-set-from-n
-    cast-t14
+    cast-t13
     send-requires
     returns)

@@ -16,8 +16,8 @@ cast-b c = search needs
 mul-n : tie.Need-mul-n
 mul-n c = search needs
 
-element-copy-out-n : tie.Need-element-copy-out-n
-element-copy-out-n c = search needs
+array-copy-out-n : tie.Need-array-copy-out-n
+array-copy-out-n c = search needs
 
 reserves-requires : tie.Need-reserves-requires
 reserves-requires c κs = search needs
@@ -46,7 +46,7 @@ on-denied-spec =
     (tie.spec
     cast-b
     mul-n
-    element-copy-out-n
+    array-copy-out-n
     reserves-requires
     returned-requires
     no-work-requires

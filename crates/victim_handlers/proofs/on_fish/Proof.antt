@@ -13,8 +13,8 @@ cast-b c = search needs
 mul-n : tie.Need-mul-n
 mul-n c = search needs
 
-element-copy-out-n : tie.Need-element-copy-out-n
-element-copy-out-n c = search needs
+array-copy-out-n : tie.Need-array-copy-out-n
+array-copy-out-n c = search needs
 
 no-work-requires : tie.Need-no-work-requires
 no-work-requires c κs = search needs
@@ -46,7 +46,7 @@ on-fish-spec =
     (tie.spec
     cast-b
     mul-n
-    element-copy-out-n
+    array-copy-out-n
     no-work-requires
     returns
     lowest-requires

@@ -10,8 +10,8 @@ use Rattle.work.proofs.start_number.Tie as tie
 mul-n : tie.Need-mul-n
 mul-n c = search needs
 
-element-copy-out-n : tie.Need-element-copy-out-n
-element-copy-out-n c = search needs
+array-copy-out-n : tie.Need-array-copy-out-n
+array-copy-out-n c = search needs
 
 returns : tie.Need-returns
 unfolding startOf parts
@@ -27,8 +27,8 @@ mul-r c = search needs
 add-r : tie.Need-add-r
 add-r c = search needs
 
-element-copy-out-r : tie.Need-element-copy-out-r
-element-copy-out-r c = search needs
+array-read-r : tie.Need-array-read-r
+array-read-r c = search needs
 
 returns-3 : tie.Need-returns-3
 unfolding startOf parts
@@ -39,4 +39,4 @@ unfolding startOf parts
 returns-4 c = search flags
 
 pub start-number-spec : {M : Type 1} → statement M
-start-number-spec = tie.close (tie.spec mul-n element-copy-out-n returns returns-2 mul-r add-r element-copy-out-r returns-3 returns-4)
+start-number-spec = tie.close (tie.spec mul-n array-copy-out-n returns returns-2 mul-r add-r array-read-r returns-3 returns-4)
