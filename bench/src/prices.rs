@@ -1,4 +1,5 @@
 //! Prices of fixed and zero bonds of 1, 60 and 240 periods: the proved pricer, the same loop in C and in Rust, and QuantLib.
+//! The C is compiled twice, by gcc and by clang, which has the same back end as the proved code.
 
 use crate::timing::best;
 use std::hint::black_box;
@@ -10,6 +11,8 @@ extern "C" {
     fn rakhvide_price_fixed(periods: u8, coupon: f64, ytm: f64) -> u64;
     fn c_price_zero(periods: u8, ytm: f64) -> u64;
     fn c_price_fixed(periods: u8, coupon: f64, ytm: f64) -> u64;
+    fn clang_price_zero(periods: u8, ytm: f64) -> u64;
+    fn clang_price_fixed(periods: u8, coupon: f64, ytm: f64) -> u64;
     fn quantlib_bond(periods: u8, coupon: f64) -> *const QuantlibBond;
     fn quantlib_price(bond: *const QuantlibBond, ytm: f64) -> f64;
 }
@@ -50,6 +53,13 @@ fn row(periods: u8, coupon: f64) {
             c_price_fixed(periods, coupon, y)
         }
     };
+    let clang = |y| unsafe {
+        if zero {
+            clang_price_zero(periods, y)
+        } else {
+            clang_price_fixed(periods, coupon, y)
+        }
+    };
     let rust = |y| {
         if zero {
             second::price::price_zero(periods, y)
@@ -59,11 +69,12 @@ fn row(periods: u8, coupon: f64) {
     };
     for &y in &ys {
         assert_eq!(proved(y), c(y));
+        assert_eq!(proved(y), clang(y));
         assert_eq!(proved(y), rust(y));
     }
     near(proved(ys[0]), unsafe { quantlib_price(bond, ys[0]) });
     let times = best(
-        200,
+        if periods == 1 { 2_000 } else { 200 },
         ys.len(),
         &mut [
             &mut || {
@@ -71,6 +82,9 @@ fn row(periods: u8, coupon: f64) {
             },
             &mut || {
                 black_box(sum(&ys, c));
+            },
+            &mut || {
+                black_box(sum(&ys, clang));
             },
             &mut || {
                 black_box(sum(&ys, rust));
@@ -86,21 +100,23 @@ fn row(periods: u8, coupon: f64) {
         }],
     )[0];
     println!(
-        "| {} of {periods} | {:.1} | {:.1} | {:.1} | {:.0} | {:.2} | {:.2} | {:.4} |",
+        "| {} of {periods} | {:.1} | {:.1} | {:.1} | {:.1} | {:.0} | {:.2} | {:.2} | {:.2} | {:.4} |",
         if zero { "zero" } else { "fixed" },
         times[0],
         times[1],
         times[2],
+        times[3],
         library,
         times[0] / times[1],
         times[0] / times[2],
+        times[0] / times[3],
         times[0] / library,
     );
 }
 
 pub fn table() {
-    println!("| bond, half-years | proved, ns | C, ns | Rust, ns | QuantLib, ns | proved / C | proved / Rust | proved / QuantLib |");
-    println!("|---|---|---|---|---|---|---|---|");
+    println!("| bond, half-years | proved, ns | C by gcc, ns | C by clang, ns | Rust, ns | QuantLib, ns | proved / gcc | proved / clang | proved / Rust | proved / QuantLib |");
+    println!("|---|---|---|---|---|---|---|---|---|---|");
     for coupon in [COUPON, 0.0] {
         for periods in [1, 60, 240] {
             row(periods, coupon);
