@@ -155,6 +155,9 @@ size-small s at e h =
 
 -- the parts of an entry below the count, and of one that is not
 module _ (s : List ℕ) (i : ℕ) where
+  pub identifier-whole : i < entryCount s → 16 + 12 * i ≤ length s
+  identifier-whole h = let k = counted s i h in omega arith
+
   pub identifier-below : i < entryCount s → identifierAt s i ≡ identifierOf s i
   unfolding identifierOf
   identifier-below h = rw (lt-ltb i (entryCount s) h)
@@ -166,6 +169,10 @@ module _ (s : List ℕ) (i : ℕ) where
   pub bond-below : i < entryCount s → bondAt s (entryCount s) i ≡ bondOf s i
   unfolding bondOf
   bond-below h = rw (lt-ltb i (entryCount s) h)
+
+  -- with the count in a number of its own
+  pub bond-counted : (n : ℕ) → n ≡ entryCount s → i < entryCount s → bondAt s n i ≡ bondOf s i
+  bond-counted n e h = rw e (bond-below h)
 
   pub bond-past : entryCount s ≤ i → noBond ≡ bondOf s i
   unfolding bondOf

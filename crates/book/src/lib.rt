@@ -5,7 +5,7 @@ use term::Reading;
 ghost use mathlib.Core.Path.{_≡_};
 ghost use Prim.Native.Nat.{_+_, _*_, _≤_, _<_};
 ghost use lib.ListN.{length};
-ghost use Rattle.book.specs.Book.{same, repeated, faultAt, lowestFault, sizesInRange, bookVerdict};
+ghost use Rattle.book.specs.Book.{identifierAt, same, repeated, faultAt, lowestFault, sizesInRange, bookVerdict};
 ghost use Rattle.book.specs.Parts.{IsSize, sizeAt, bondIn, bondAt, machineCount, entryCount, identifierOf, identifierNumber, bondOf};
 
 // Whether a and b hold the same bytes.
@@ -136,18 +136,22 @@ pub fn entries(s: &[u8]) -> u8
     size_at(s, 2)
 }
 
+// The identifier of entry i, of a book that is long enough to have it.
+pub fn identifier_at(s: &[u8], i: usize) -> &[u8]
+    requires { ⌜ 16 + 12 * i ≤ length (now s) ⌝ }
+    ensures { λ r. ⌜ now r ≡ identifierAt (now (s .entry)) i ⌝ }
+{
+    let a = 4 + 12 * i;
+    let end = a + 12;
+    &s[a..end]
+}
+
 // The identifier of entry i, as that part of the book; the empty part for a faulty book or an entry number of n or more.
 pub fn identifier(s: &[u8], i: usize) -> &[u8]
     ensures { λ r. ⌜ now r ≡ identifierOf (now (s .entry)) i ⌝ }
 {
     let n = entries(s) as usize;
-    if i < n {
-        let a = 4 + 12 * i;
-        let e = a + 12;
-        &s[a..e]
-    } else {
-        &s[0..0]
-    }
+    if i < n { identifier_at(s, i) } else { &s[0..0] }
 }
 
 // The number that goes with that part: the faulty book's own, 11 for an entry number of n or more, or 0.
@@ -175,8 +179,8 @@ fn bond_in(r: Reading) -> Bond
     }
 }
 
-// The bond of entry i of n.
-fn bond_at(s: &[u8], n: usize, i: usize) -> Bond
+// The bond of entry i of n, of a book that is as long as n entries are.
+pub fn bond_at(s: &[u8], n: usize, i: usize) -> Bond
     requires { ⌜ length (now s) ≡ 4 + 31 * n ⌝ }
     requires { ⌜ (i < n) × (n < 65) ⌝ }
     ensures { λ r. ⌜ r ≡ bondAt (now (s .entry)) n i ⌝ }

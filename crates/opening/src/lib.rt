@@ -47,7 +47,7 @@ fn bonds(s: &[u8]) -> [Bond; 64]
     let mut out = no_bonds();
     let mut i: usize = 0;
     while i < n {
-        out[i] = book::bond(s, i);
+        out[i] = book::bond_at(s, n, i);
         i += 1;
     }
     out

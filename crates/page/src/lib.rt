@@ -29,7 +29,7 @@ fn put_entries(book: &[u8], t: Table, out: &mut [u8], at: usize) -> usize
     let mut i: usize = 0;
     while i < n {
         let v = t.jobs[i];
-        end = lines::put_entry(out, end, book::identifier(book, i), v);
+        end = lines::put_entry(out, end, book::identifier_at(book, i), v);
         i += 1;
     }
     end

@@ -1,20 +1,16 @@
 -- `book::bond` meets its contract: a book with an entry is accepted, and so its terms are whole. Assumes nothing.
-use Prim.Native.Nat.{ℕ, _<_}
-use mathlib.Core.List.{List}
-use mathlib.Core.Path.{_≡_, _∙_}
+use Prim.Native.Nat.{_<_}
+use mathlib.Core.Path.{_∙_}
 use denote.Ref.{now}
 use native.Mathlib.Omega.{arith}
-use Rattle.book.specs.Parts.{entryCount, bondAt, bondOf}
-use Rattle.book.proofs.Accepted.{counted, bond-below, bond-past}
+use Rattle.book.specs.Parts.{entryCount}
+use Rattle.book.proofs.Accepted.{counted, bond-counted, bond-past}
 use borrow.Author.Needs.{needs}
 use Rattle.book.proofs.bond.Statement.{statement}
 use Rattle.book.proofs.bond.Tie as tie
 
 below : (c : tie.Then1) → c .before .before .before .args .i < entryCount (now (c .before .before .before .args .s))
 below c = rw (c .before .entries .ensures) at (c .if1 .taken)
-
-joined : (s : List ℕ) (n i : ℕ) → n ≡ entryCount s → i < entryCount s → bondAt s n i ≡ bondOf s i
-joined s n i e h = rw e (bond-below s i h)
 
 entries-requires : tie.Need-entries-requires
 entries-requires c κs = search needs
@@ -29,7 +25,7 @@ bond-in-requires : tie.Need-bond-in-requires
 bond-in-requires c κs = search needs
 
 returns : tie.Need-returns
-returns c = c .bond-at .ensures ∙ joined _ _ _ (c .before .before .entries .ensures) (below (c .before))
+returns c = c .bond-at .ensures ∙ bond-counted _ _ _ (c .before .before .entries .ensures) (below (c .before))
 
 returns-2 : tie.Need-returns-2
 returns-2 c = c .bond-in .ensures ∙ bond-past _ _ (rw (c .before .before .entries .ensures) at (c .before .if1 .left))

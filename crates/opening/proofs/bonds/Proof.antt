@@ -10,6 +10,7 @@ use Rattle.lists.proofs.Scans.{list-none, list-more, list-end}
 use Rattle.opening.proofs.Counts.{entries-most}
 use Rattle.lists.specs.Scan.{padTo, listOf}
 use Rattle.book.specs.Parts.{entryCount, noBond, bondOf}
+use Rattle.book.proofs.Accepted.{counted, bond-counted}
 use Rattle.opening.specs.Opening.{bondsOf}
 use Rattle.opening.proofs.bonds.Statement.{statement}
 use Rattle.opening.proofs.bonds.Tie as tie
@@ -36,8 +37,12 @@ below c = omega (arith, c .before .loop .inv .0)
 loop-holds : tie.Need-loop-holds Inv-loop μ-loop
 loop-holds c = (c .before .entries .ensures, search tests, c .no-bonds .ensures ∙ list-none _ 64 noBond)
 
-bond-requires : tie.Need-bond-requires Inv-loop μ-loop
-bond-requires c κs = search tests
+bond-at-requires : tie.Need-bond-at-requires Inv-loop μ-loop
+bond-at-requires c κs =
+    let b = below c in
+    let k = counted _ _ b in
+    let e = c .before .loop .inv .0 in
+    (omega arith, (omega arith, omega arith))
 
 mul-out : tie.Need-mul-out Inv-loop μ-loop
 mul-out c = search tests
@@ -58,7 +63,7 @@ loop-again c =
       l .loop .inv .0,
       search tests,
       ap (λ (b : Bond). set (l .loop .out) (l .loop .i) b)
-          (c .bond .ensures)
+          (c .bond-at .ensures ∙ bond-counted s (l .loop .i) _ (l .loop .inv .0) (below (c .before)))
           ∙ list-more (bondOf s) 64 noBond (l .loop .i) (l .loop .out) (omega (arith, below (c .before), entries-most s)) (l .loop .inv .2),
     )
 
@@ -76,7 +81,7 @@ bonds-spec =
     cast-n
     no-bonds-requires
     loop-holds
-    bond-requires
+    bond-at-requires
     mul-out
     array-set-from-out
     add-i

@@ -1,12 +1,13 @@
 -- `page::put_entries` meets its contract. The invariant of its loop: the lines of the first i entries are written. Assumes nothing.
 use borrow.Author.Needs.{needs}
 use mathlib.Core.Path.{_≡_, refl, ap, _∙_}
-use Prim.Native.Nat.{_+_, _-_, _≤_}
+use Prim.Native.Nat.{_+_, _-_, _≤_, _<_}
 use native.Mathlib.Omega.{arith}
 use lib.ListN.{length}
 use Rattle.text.specs.Text.{joined, Written}
 use Rattle.text.proofs.Over.{joined-none, joined-more}
-use Rattle.book.specs.Parts.{entryCount}
+use Rattle.book.specs.Parts.{entryCount, identifierOf}
+use Rattle.book.proofs.Accepted.{identifier-whole, identifier-below}
 use Rattle.table.specs.Views.{jobAt}
 use Rattle.table.proofs.Long.{long}
 use Rattle.opening.proofs.Counts as counts
@@ -38,8 +39,17 @@ mul-v c = omega (arith, counts.entries-most (c .before .before .before .before .
 element-copy-out-v : tie.Need-element-copy-out-v Inv-loop μ-loop
 element-copy-out-v c = omega (arith, counts.entries-most (c .before .before .before .before .before .args .book .now))
 
-identifier-requires : tie.Need-identifier-requires Inv-loop μ-loop
-identifier-requires c κs = search needs
+-- in a turn the entry is one of the book's
+below : (c : tie.In-loop Inv-loop μ-loop) → c .before .loop .i < entryCount (c .before .before .before .before .before .args .book .now)
+below c = omega arith
+
+identifier-at-requires : tie.Need-identifier-at-requires Inv-loop μ-loop
+identifier-at-requires c κs = identifier-whole _ _ (below (c .before .before))
+
+-- the part that is handed over is the entry's identifier
+identifier-is : (c : tie.After-identifier-at Inv-loop μ-loop)
+    → c .identifier-at .result .now ≡ identifierOf (c .before .before .before .before .before .before .before .before .args .book .now) (c .before .before .before .before .loop .i)
+identifier-is c = c .identifier-at .ensures ∙ identifier-below _ _ (below (c .before .before .before))
 
 put-entry-requires : tie.Need-put-entry-requires Inv-loop μ-loop
 unfolding jobAt
@@ -49,7 +59,7 @@ put-entry-requires c κs =
     let l = c .before .before .before .before .loop in
     let z = passed-sized (a .t2) (long (a .t2) _ (s .good .1 .0)) (s .pre .0) in
     let n = counts.entries-most (a .book .now) in
-    let i = ap length (c .identifier .ensures) in (
+    let i = ap length (identifier-is c) in (
       omega (arith, i, identifier-most (a .book .now) (l .i), l .inv .2 .end, lines-most (a .book .now) (a .t2) z (s .pre .0) (l .i) (omega arith)),
       replica-small (a .book .now) (a .t2) z (s .pre .0) (l .i) (omega arith),
     )
@@ -67,12 +77,12 @@ loop-again c =
     let a = s .args in
     let l = c .before .before .before .before .before .before .before .loop in
     let w = c .before .before .put-entry in
-    let i = c .before .before .before .identifier in
+    let i = c .before .before .before in
     let z = passed-sized (a .t2) (long (a .t2) _ (s .good .1 .0)) (s .pre .0) in
     let n = counts.entries-most (a .book .now) in (
       omega arith,
       w .kept .0 ∙ l .inv .1,
-      joined-more (lineOf (a .book .now) (a .t2)) (l .inv .2) (line-written (a .book .now) (a .t2) (l .i) (i .result .now) (i .ensures) (w .ensures))
+      joined-more (lineOf (a .book .now) (a .t2)) (l .inv .2) (line-written (a .book .now) (a .t2) (l .i) (i .identifier-at .result .now) (identifier-is i) (w .ensures))
           (omega (arith, s .pre .1, lines-most (a .book .now) (a .t2) z (s .pre .0) (l .i + 1) (omega arith))),
     )
 
@@ -98,7 +108,7 @@ put-entries-spec =
     loop-holds
     mul-v
     element-copy-out-v
-    identifier-requires
+    identifier-at-requires
     put-entry-requires
     add-i
     loop-less
