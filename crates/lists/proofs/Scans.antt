@@ -216,6 +216,10 @@ module _ {A : Type 0} (f : ℕ → A → A) (x : A) where
   pub up-end : (n i : ℕ) (u : A) → n ≤ i → i ≤ n → u ≡ upTo f i x → u ≡ upTo f n x
   up-end n i u a b e = e ∙ ap (λ (k : ℕ). upTo f k x) (le-antisymm b a)
 
+pub list-next : {A : Type 0} (f : ℕ → A) (i : ℕ) → listOf f (i + 1) ≡ listOf f i ++ (f i ∷ [])
+unfolding listOf
+list-next f i = rw (add-one i)
+
 -- A loop that fills the first of n slots with f 0, f 1, ..
 module _ {A : Type 0} (f : ℕ → A) (n : ℕ) (d : A) where
   pub length-list : (i : ℕ) → length (listOf f i) ≡ i

@@ -5,14 +5,13 @@ use mathlib.Core.Logic.{_≢_}
 use mathlib.Core.Bool.{true}
 use mathlib.Core.List.{List, [], _∷_, _++_, append-assoc, append-nil}
 use native.Mathlib.Nat.{add-zero}
-use native.Mathlib.Numerals.{add-one}
 use native.Mathlib.Omega.{arith}
 use borrow.Author.Tests.{eq-eqb, ne-eqb}
 use lib.Dec.{eqb}
 use lib.ListN.{length, length-append}
 use Rattle.lists.specs.Scan.{listOf}
 use Rattle.lists.proofs.Cases.{byBool}
-use Rattle.lists.proofs.Scans.{length-list}
+use Rattle.lists.proofs.Scans.{length-list, list-next}
 use Rattle.lines.specs.Lines.{eventRefused}
 use Rattle.lines.proofs.Longest.{event-most}
 use Rattle.table.specs.declared.Table.{Table}
@@ -84,10 +83,6 @@ refusals-most place t (e ∷ es) =
     omega (arith, length-append r (refusalsOf (place + 1) (stepOf t e .table) es), refusal-most place (stepOf t e .number) (number-most t e), refusals-most (place + 1) (stepOf t e .table) es)
 
 -- ---- the events of s, of which the first k have been run
-
-list-next : {A : Type 0} (f : ℕ → A) (k : ℕ) → listOf f (k + 1) ≡ listOf f k ++ (f k ∷ [])
-unfolding listOf
-list-next f k = rw (add-one k)
 
 -- the first k events of s have been run from t, and their lines stand at the front of the buffer d, which is now e
 pub record Turn (t : Table) (s d : List ℕ) (k at : ℕ) (u : Table) (e : List ℕ) : Type 0 where
