@@ -21,10 +21,11 @@ fn sizes_ok(t: Table) -> bool
 fn bound(t: Table) -> u8
     ensures { λ r. ⌜ r ≡ bound t ⌝ }
 {
+    let told = t.told;
     let mut n: u8 = 0;
     let mut d: usize = 0;
     while d < 16 {
-        let x = t.told[d];
+        let x = told[d];
         d += 1;
         if x == 1 {
             n += 1;
@@ -37,9 +38,10 @@ fn bonds_ok(t: Table) -> bool
     ensures { λ r. ⌜ r ≡ bondsOk t ⌝ }
 {
     let entries = t.entries;
+    let bonds = t.bonds;
     let mut i: usize = 0;
     while i < 64 {
-        let x = t.bonds[i];
+        let x = bonds[i];
         if !elements::bond_ok(entries, i as u8, x) {
             return false;
         }
@@ -53,9 +55,10 @@ fn jobs_ok(t: Table, b: u8) -> bool
 {
     let machines = t.machines;
     let entries = t.entries;
+    let jobs = t.jobs;
     let mut i: usize = 0;
     while i < 64 {
-        let v = t.jobs[i];
+        let v = jobs[i];
         if !elements::job_ok(machines, entries, b, i as u8, v) {
             return false;
         }
@@ -69,9 +72,10 @@ fn nodes_ok(t: Table, b: u8) -> bool
 {
     let machines = t.machines;
     let entries = t.entries;
+    let nodes = t.nodes;
     let mut i: usize = 0;
     while i < 16 {
-        let n = t.nodes[i];
+        let n = nodes[i];
         if !elements::node_ok(machines, entries, b, i as u8, n) {
             return false;
         }
@@ -80,7 +84,7 @@ fn nodes_ok(t: Table, b: u8) -> bool
     true
 }
 
-// The pool of machine m, of which alive says whether it is.
+// The pool of machine m, of which alive says whether it is. A cell that is 0 passes without a call.
 fn pool_row(entries: u8, b: u8, alive: u8, pools: [u8; 1024], m: usize) -> bool
     requires { ⌜ m < 16 ⌝ }
     ensures { λ r. ⌜ r ≡ all (λ j. cellOk entries b alive j (getD pools (m * 64 + j) 0)) 64 ⌝ }
@@ -89,8 +93,10 @@ fn pool_row(entries: u8, b: u8, alive: u8, pools: [u8; 1024], m: usize) -> bool
     let mut i: usize = 0;
     while i < 64 {
         let x = pools[base + i];
-        if !elements::cell_ok(entries, b, alive, i as u8, x) {
-            return false;
+        if x != 0 {
+            if !elements::cell_ok(entries, b, alive, i as u8, x) {
+                return false;
+            }
         }
         i += 1;
     }
@@ -102,9 +108,10 @@ fn pools_ok(t: Table, b: u8) -> bool
 {
     let entries = t.entries;
     let pools = t.pools;
+    let nodes = t.nodes;
     let mut i: usize = 0;
     while i < 16 {
-        let n = t.nodes[i];
+        let n = nodes[i];
         if !pool_row(entries, b, n.alive, pools, i) {
             return false;
         }
@@ -147,9 +154,10 @@ fn messages_ok(t: Table, b: u8) -> bool
     let entries = t.entries;
     let used = t.in_flight;
     let nodes = t.nodes;
+    let messages = t.messages;
     let mut i: usize = 0;
     while i < 128 {
-        let m = t.messages[i];
+        let m = messages[i];
         if !slot_ok(machines, entries, b, used, i as u8, nodes, m) {
             return false;
         }

@@ -5,19 +5,20 @@ use borrow.Author.Tests.{not-true, not-false}
 use Prim.Native.Nat.{_≤_, _-_}
 use mathlib.Core.Path.{_≡_, sym, _∙_}
 use mathlib.Core.Bool.{true}
+use lib.ListN.{getD}
 use Rattle.lists.specs.Scan.{all}
 use Rattle.lists.proofs.Scans.{all-none, all-more, all-fail, all-end}
-use Rattle.table.specs.Views.{parts, bondAt}
+use Rattle.table.specs.Views.{parts, pastBond}
 use Rattle.elements.specs.Elements.{bondOk}
 use Rattle.validity.specs.Validity.{bondsOk}
 use Rattle.validity.proofs.bonds_ok.Statement.{statement}
 use Rattle.validity.proofs.bonds_ok.Tie as tie
 
 abbrev Inv-loop : tie.InvT-loop
-Inv-loop t entries i₀ i = (i ≤ 64) × (all (λ j. bondOk (t .entries) j (bondAt t j)) i ≡ true)
+Inv-loop entries bonds i₀ i = (i ≤ 64) × (all (λ j. bondOk entries j (getD bonds j pastBond)) i ≡ true)
 
 abbrev μ-loop : tie.MeasureT-loop
-μ-loop t entries i₀ i = 64 - i
+μ-loop entries bonds i₀ i = 64 - i
 
 loop-holds : tie.Need-loop-holds Inv-loop μ-loop
 loop-holds c = (search tests, all-none _)
@@ -25,8 +26,8 @@ loop-holds c = (search tests, all-none _)
 mul-x : tie.Need-mul-x Inv-loop μ-loop
 mul-x c = search tests
 
-element-copy-out-x : tie.Need-element-copy-out-x Inv-loop μ-loop
-element-copy-out-x c = search tests
+array-copy-out-x : tie.Need-array-copy-out-x Inv-loop μ-loop
+array-copy-out-x c = search tests
 
 cast-bond-ok : tie.Need-cast-bond-ok Inv-loop μ-loop
 cast-bond-ok c = search tests
@@ -60,7 +61,7 @@ bonds-ok-spec =
     μ-loop
     loop-holds
     mul-x
-    element-copy-out-x
+    array-copy-out-x
     cast-bond-ok
     bond-ok-requires
     returns

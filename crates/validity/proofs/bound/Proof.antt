@@ -2,28 +2,29 @@
 -- Assumes nothing.
 use Rattle.lists.proofs.Rules.{tests}
 use borrow.Author.Tests.{eq-eqb, ne-eqb}
-use Prim.Native.Nat.{ℕ, _≤_, _-_, _+_}
+use Prim.Native.Nat.{ℕ, _≤_, _-_, _+_, _*_}
 use mathlib.Core.Path.{_≡_, ap}
 use native.Mathlib.Nat.{zero-add}
 use lib.Dec.{eqb}
+use lib.ListN.{getD}
 use Rattle.lists.specs.Scan.{countTo}
 use Rattle.lists.proofs.Scans.{count-none, count-yes, count-no, count-end}
-use Rattle.table.specs.Views.{parts, toldAt}
+use Rattle.table.specs.Views.{parts}
 use Rattle.validity.specs.Validity.{bound}
 use Rattle.validity.proofs.bound.Statement.{statement}
 use Rattle.validity.proofs.bound.Tie as tie
 
 abbrev Inv-loop : tie.InvT-loop
-Inv-loop t n₀ d₀ n d = (d ≤ 16) × (n ≤ d) × (n ≡ countTo (λ k. eqb (toldAt t 0 k) 1) d)
+Inv-loop told n₀ d₀ n d = (d ≤ 16) × (n ≤ d) × (n ≡ countTo (λ k. eqb (getD told (0 * 16 + k) 0) 1) d)
 
 abbrev μ-loop : tie.MeasureT-loop
-μ-loop t n₀ d₀ n d = 16 - d
+μ-loop told n₀ d₀ n d = 16 - d
 
 loop-holds : tie.Need-loop-holds Inv-loop μ-loop
 loop-holds c = (search tests, search tests, count-none _)
 
-element-copy-out-x : tie.Need-element-copy-out-x Inv-loop μ-loop
-element-copy-out-x c = search tests
+array-read-x : tie.Need-array-read-x Inv-loop μ-loop
+array-read-x c = search tests
 
 add-d : tie.Need-add-d Inv-loop μ-loop
 add-d c = search tests
@@ -49,7 +50,7 @@ add-result : tie.Need-add-result Inv-loop μ-loop
 add-result c = search tests
 
 returns : tie.Need-returns Inv-loop μ-loop
-unfolding bound
+unfolding bound parts
 returns c = ap (λ (k : ℕ). k + 1) (count-end _ 16 (c .before .loop .d) _ (search tests) (search tests) (search tests))
 
 pub bound-spec : {M : Type 1} → statement M
@@ -59,7 +60,7 @@ bound-spec =
     Inv-loop
     μ-loop
     loop-holds
-    element-copy-out-x
+    array-read-x
     add-d
     add-n
     loop-less

@@ -5,19 +5,20 @@ use borrow.Author.Tests.{not-true, not-false}
 use Prim.Native.Nat.{_≤_, _-_}
 use mathlib.Core.Path.{_≡_, sym, _∙_}
 use mathlib.Core.Bool.{true}
+use lib.ListN.{getD}
 use Rattle.lists.specs.Scan.{all}
 use Rattle.lists.proofs.Scans.{all-none, all-more, all-fail, all-end}
-use Rattle.table.specs.Views.{parts, jobAt}
+use Rattle.table.specs.Views.{parts, noJob}
 use Rattle.elements.specs.Elements.{jobOk}
 use Rattle.validity.specs.Validity.{jobsOk}
 use Rattle.validity.proofs.jobs_ok.Statement.{statement}
 use Rattle.validity.proofs.jobs_ok.Tie as tie
 
 abbrev Inv-loop : tie.InvT-loop
-Inv-loop b t machines entries i₀ i = (i ≤ 64) × (all (λ j. jobOk (t .machines) (t .entries) b j (jobAt t j)) i ≡ true)
+Inv-loop b machines entries jobs i₀ i = (i ≤ 64) × (all (λ j. jobOk machines entries b j (getD jobs j noJob)) i ≡ true)
 
 abbrev μ-loop : tie.MeasureT-loop
-μ-loop b t machines entries i₀ i = 64 - i
+μ-loop b machines entries jobs i₀ i = 64 - i
 
 loop-holds : tie.Need-loop-holds Inv-loop μ-loop
 loop-holds c = (search tests, all-none _)
@@ -25,8 +26,8 @@ loop-holds c = (search tests, all-none _)
 mul-v : tie.Need-mul-v Inv-loop μ-loop
 mul-v c = search tests
 
-element-copy-out-v : tie.Need-element-copy-out-v Inv-loop μ-loop
-element-copy-out-v c = search tests
+array-copy-out-v : tie.Need-array-copy-out-v Inv-loop μ-loop
+array-copy-out-v c = search tests
 
 cast-job-ok : tie.Need-cast-job-ok Inv-loop μ-loop
 cast-job-ok c = search tests
@@ -60,7 +61,7 @@ jobs-ok-spec =
     μ-loop
     loop-holds
     mul-v
-    element-copy-out-v
+    array-copy-out-v
     cast-job-ok
     job-ok-requires
     returns

@@ -5,19 +5,20 @@ use borrow.Author.Tests.{not-true, not-false}
 use Prim.Native.Nat.{_≤_, _-_}
 use mathlib.Core.Path.{_≡_, sym, _∙_}
 use mathlib.Core.Bool.{true}
+use lib.ListN.{getD}
 use Rattle.lists.specs.Scan.{all}
 use Rattle.lists.proofs.Scans.{all-none, all-more, all-fail, all-end}
-use Rattle.table.specs.Views.{parts, nodeAt, messageAt}
+use Rattle.table.specs.Views.{parts, noMachine, noMessage}
 use Rattle.slots.specs.Slots.{slotOk}
 use Rattle.validity.specs.Validity.{messagesOk}
 use Rattle.validity.proofs.messages_ok.Statement.{statement}
 use Rattle.validity.proofs.messages_ok.Tie as tie
 
 abbrev Inv-loop : tie.InvT-loop
-Inv-loop b t machines entries used nodes i₀ i = (i ≤ 128) × (all (λ i. slotOk (t .machines) (t .entries) b (t .«in_flight») i (nodeAt t (messageAt t i .to) .alive) (messageAt t i)) i ≡ true)
+Inv-loop b machines entries used nodes messages i₀ i = (i ≤ 128) × (all (λ i. slotOk machines entries b used i (getD nodes (getD messages i noMessage .to) noMachine .alive) (getD messages i noMessage)) i ≡ true)
 
 abbrev μ-loop : tie.MeasureT-loop
-μ-loop b t machines entries used nodes i₀ i = 128 - i
+μ-loop b machines entries used nodes messages i₀ i = 128 - i
 
 loop-holds : tie.Need-loop-holds Inv-loop μ-loop
 loop-holds c = (search tests, all-none _)
@@ -25,8 +26,8 @@ loop-holds c = (search tests, all-none _)
 mul-m : tie.Need-mul-m Inv-loop μ-loop
 mul-m c = search tests
 
-element-copy-out-m : tie.Need-element-copy-out-m Inv-loop μ-loop
-element-copy-out-m c = search tests
+array-copy-out-m : tie.Need-array-copy-out-m Inv-loop μ-loop
+array-copy-out-m c = search tests
 
 cast-slot-ok : tie.Need-cast-slot-ok Inv-loop μ-loop
 cast-slot-ok c = search tests
@@ -60,7 +61,7 @@ messages-ok-spec =
     μ-loop
     loop-holds
     mul-m
-    element-copy-out-m
+    array-copy-out-m
     cast-slot-ok
     slot-ok-requires
     returns

@@ -5,19 +5,20 @@ use borrow.Author.Tests.{not-true, not-false}
 use Prim.Native.Nat.{_≤_, _-_}
 use mathlib.Core.Path.{_≡_, sym, _∙_}
 use mathlib.Core.Bool.{true}
+use lib.ListN.{getD}
 use Rattle.lists.specs.Scan.{all}
 use Rattle.lists.proofs.Scans.{all-none, all-more, all-fail, all-end}
-use Rattle.table.specs.Views.{parts, nodeAt}
+use Rattle.table.specs.Views.{parts, noMachine}
 use Rattle.elements.specs.Elements.{nodeOk}
 use Rattle.validity.specs.Validity.{nodesOk}
 use Rattle.validity.proofs.nodes_ok.Statement.{statement}
 use Rattle.validity.proofs.nodes_ok.Tie as tie
 
 abbrev Inv-loop : tie.InvT-loop
-Inv-loop b t machines entries i₀ i = (i ≤ 16) × (all (λ m. nodeOk (t .machines) (t .entries) b m (nodeAt t m)) i ≡ true)
+Inv-loop b machines entries nodes i₀ i = (i ≤ 16) × (all (λ m. nodeOk machines entries b m (getD nodes m noMachine)) i ≡ true)
 
 abbrev μ-loop : tie.MeasureT-loop
-μ-loop b t machines entries i₀ i = 16 - i
+μ-loop b machines entries nodes i₀ i = 16 - i
 
 loop-holds : tie.Need-loop-holds Inv-loop μ-loop
 loop-holds c = (search tests, all-none _)
@@ -25,8 +26,8 @@ loop-holds c = (search tests, all-none _)
 mul-n : tie.Need-mul-n Inv-loop μ-loop
 mul-n c = search tests
 
-element-copy-out-n : tie.Need-element-copy-out-n Inv-loop μ-loop
-element-copy-out-n c = search tests
+array-copy-out-n : tie.Need-array-copy-out-n Inv-loop μ-loop
+array-copy-out-n c = search tests
 
 cast-node-ok : tie.Need-cast-node-ok Inv-loop μ-loop
 cast-node-ok c = search tests
@@ -60,7 +61,7 @@ nodes-ok-spec =
     μ-loop
     loop-holds
     mul-n
-    element-copy-out-n
+    array-copy-out-n
     cast-node-ok
     node-ok-requires
     returns

@@ -1,10 +1,11 @@
--- `validity::pool_row` meets its contract. The loop keeps: every element passed so far passes its test.
+-- `validity::pool_row` meets its contract. The loop keeps: every element passed so far passes its test; one that is 0 does by the test's definition.
 -- Assumes nothing.
 use Rattle.lists.proofs.Rules.{tests}
-use borrow.Author.Tests.{not-true, not-false}
+use borrow.Author.Tests.{eq-eqb, not-true, not-false}
 use Prim.Native.Nat.{_≤_, _-_, _+_, _*_}
 use mathlib.Core.Path.{_≡_, sym, _∙_}
 use mathlib.Core.Bool.{true}
+use mathlib.Core.Logic.{⊎-elim}
 use lib.ListN.{getD}
 use Rattle.lists.specs.Scan.{all}
 use Rattle.lists.proofs.Scans.{all-none, all-more, all-fail, all-end}
@@ -39,7 +40,7 @@ cell-ok-requires c κs = search tests
 
 returns : tie.Need-returns Inv-loop μ-loop
 unfolding parts
-returns c = sym (all-fail _ _ _ (search tests) (sym (c .before .cell-ok .ensures) ∙ not-true _ (c .if1 .taken)))
+returns c = sym (all-fail _ _ _ (search tests) (sym (c .before .cell-ok .ensures) ∙ not-true _ (c .if2 .taken)))
 
 add-i : tie.Need-add-i Inv-loop μ-loop
 add-i c = search tests
@@ -49,7 +50,10 @@ loop-less c = search tests
 
 loop-again : tie.Need-loop-again Inv-loop μ-loop
 unfolding parts
-loop-again c = (search tests, all-more _ _ (search tests) (sym (c .before .cell-ok .ensures) ∙ not-false _ (c .if1 .left)))
+loop-again c = (
+  search tests,
+  all-more _ _ (search tests) (⊎-elim (λ w. sym (w .1 .ensures) ∙ not-false _ (w .2 .left)) (λ w. rw (eq-eqb _ _ (w .left))) (c .if1 .came)),
+)
 
 returns-2 : tie.Need-returns-2 Inv-loop μ-loop
 unfolding parts

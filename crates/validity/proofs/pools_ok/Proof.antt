@@ -2,21 +2,23 @@
 -- Assumes nothing.
 use Rattle.lists.proofs.Rules.{tests}
 use borrow.Author.Tests.{not-true, not-false}
-use Prim.Native.Nat.{_≤_, _-_}
+use Prim.Native.Nat.{_≤_, _-_, _+_, _*_}
 use mathlib.Core.Path.{_≡_, sym, _∙_}
 use mathlib.Core.Bool.{true}
+use lib.ListN.{getD}
 use Rattle.lists.specs.Scan.{all}
 use Rattle.lists.proofs.Scans.{all-none, all-more, all-fail, all-end}
-use Rattle.table.specs.Views.{parts}
+use Rattle.table.specs.Views.{parts, noMachine}
+use Rattle.elements.specs.Elements.{cellOk}
 use Rattle.validity.specs.Validity.{poolRow, poolsOk}
 use Rattle.validity.proofs.pools_ok.Statement.{statement}
 use Rattle.validity.proofs.pools_ok.Tie as tie
 
 abbrev Inv-loop : tie.InvT-loop
-Inv-loop b t entries pools i₀ i = (i ≤ 16) × (all (poolRow t b) i ≡ true)
+Inv-loop b entries pools nodes i₀ i = (i ≤ 16) × (all (λ m. all (λ j. cellOk entries b (getD nodes m noMachine .alive) j (getD pools (m * 64 + j) 0)) 64) i ≡ true)
 
 abbrev μ-loop : tie.MeasureT-loop
-μ-loop b t entries pools i₀ i = 16 - i
+μ-loop b entries pools nodes i₀ i = 16 - i
 
 loop-holds : tie.Need-loop-holds Inv-loop μ-loop
 loop-holds c = (search tests, all-none _)
@@ -24,8 +26,8 @@ loop-holds c = (search tests, all-none _)
 mul-n : tie.Need-mul-n Inv-loop μ-loop
 mul-n c = search tests
 
-element-copy-out-n : tie.Need-element-copy-out-n Inv-loop μ-loop
-element-copy-out-n c = search tests
+array-copy-out-n : tie.Need-array-copy-out-n Inv-loop μ-loop
+array-copy-out-n c = search tests
 
 pool-row-requires : tie.Need-pool-row-requires Inv-loop μ-loop
 pool-row-requires c κs = search tests
@@ -56,7 +58,7 @@ pools-ok-spec =
     μ-loop
     loop-holds
     mul-n
-    element-copy-out-n
+    array-copy-out-n
     pool-row-requires
     returns
     add-i
