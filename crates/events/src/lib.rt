@@ -51,8 +51,8 @@ pub fn delivered(t: Table, a: u8, b: u8) -> Table
     ensures { λ r. ⌜ r ≡ delivered t (oldest t a b) ⌝ }
 {
     let k = messages::oldest(t, a, b);
-    let messages = t.messages;
-    let m = messages[k];
+    let slots = t.messages;
+    let m = slots[k];
     let u = messages::pull(t, k);
     handlers::handle(u, m)
 }
