@@ -1,11 +1,12 @@
 /* Rakhvide's functions for programs in C, and for any language that calls C: the static library that `rt staticlib rakhvide_c` writes.
  *
- * What each function answers is proved for every content of its buffers (crates/rakhvide_c). What is left to the caller, and cannot be proved here:
+ * What each function answers is proved for every content of its buffers (crates/rakhvide_c); that this header declares them as they are is not. The bytes
+ * of a book, of an event and of a kept table, and what the numbers mean, are in docs/LAYOUT.md. What is left to the caller, and cannot be proved here:
  *   - a pointer is not null, also where its length is 0, and the bytes from it to its length are there;
  *   - a buffer that is written (no `const`) overlaps no other argument;
  *   - no other thread writes to a buffer during the call.
  * No function keeps a pointer, allocates, or has state of its own: calls on different buffers may run side by side.
- * The numbers are those of document 01; 0 is accepted. A refusal leaves every buffer as it was. */
+ * A number of 0 is accepted, any other a refusal, which leaves every buffer as it was. A call needs up to 64 KiB of stack. */
 #ifndef RAKHVIDE_H
 #define RAKHVIDE_H
 
@@ -43,7 +44,7 @@ uint64_t rakhvide_price_fixed(uint8_t periods, double coupon, double yield);
 bool rakhvide_page(const uint8_t *book, size_t book_length, const uint8_t *events, size_t events_length,
                    uint8_t *out, size_t out_length, size_t *written);
 
-/* A kept table: RAKHVIDE_TABLE bytes that a program may store and read again; docs/LAYOUT.md says what each byte is.
+/* A kept table: RAKHVIDE_TABLE bytes that a program may store and read again. It has the terms of each entry and not the identifiers: keep the book too.
  * Opens the book: its number; 9 where the table's buffer has another length than RAKHVIDE_TABLE; or 0, and the fresh table is written. */
 uint8_t rakhvide_open(const uint8_t *book, size_t book_length, uint8_t *table, size_t table_length);
 

@@ -1,5 +1,6 @@
--- Demand 3 of document 01: one claim about an accepted book and a whole list of events, each of them any list of bytes, run from the fresh table of the
--- book. It is stated over definitions alone; its proof is `demand-3` in proofs/Demand3.antt.
+-- Demand 3: one claim about an accepted book and a whole list of events, each of them any list of bytes, run from the fresh table of the book. Its
+-- sentences are quoted from the three demands (README.md, "What is proved"); what their words mean is document 01's "A run, and the words of demand 3".
+-- It is stated over definitions alone; its proof is `demand-3` in proofs/Demand3.antt.
 --
 --   openOf book .table      the fresh table of the book                       (opening)
 --   stepOf t e              the answer to event e on table t, and its table   (dispatcher)
@@ -20,7 +21,7 @@ use Rattle.opening.specs.Opening.{openOf}
 use Rattle.dispatcher.specs.Step.{stepOf, runOf}
 use Rattle.claims.specs.History.{answersOf, countOf, admits, kills, finds, resultsOf, stateAfter, serialOf, allFurther}
 
--- "each event answered as document 01 says", wherever it stands in the list
+-- "each event is answered as document 01 says", wherever it stands in the list
 pub record Answered (fresh : Table) (front : List (List ℕ)) (e : List ℕ) (back : List (List ℕ)) : Type 0 where
   -- its answer in the run is that of one event on the table that the events before it left
   pub number : getD (answersOf fresh (front ++ e ∷ back)) (length front) 0 ≡ stepOf (runOf fresh front) e .number
@@ -50,17 +51,24 @@ pub record Shown (book : List ℕ) (fresh : Table) (events : List (List ℕ)) (j
   pub bounded : v .replica ≤ 1 + countOf kills fresh events
 
 -- "at most 879 further accepted events (no admission, steal or death) price every admitted bond"
+-- "The further events go on in the same way from the table the run ended with; each of them returns 0, and there may be none."
 pub record Further (t : Table) : Type 0 where
   pub events : List (List ℕ)
   pub few : length events ≤ 879
+  -- each returns 0
   pub accepted : answersOf t events ≡ replicate (length events) 0
   pub only : allFurther events ≡ true
+  -- every bond that is admitted in t is priced after them
   pub priced : (j : ℕ) → jobAt t j .state ≢ 0 → jobAt (runOf t events) j .state ≡ 2
 
+-- Demand 3 of a book and a list of events, by its sentences in their order
 pub record Demand3 (book : List ℕ) (events : List (List ℕ)) : Type 0 where
+  -- "each event is answered as document 01 says": every event e of the list, with the events before and after it
   pub answers : (front : List (List ℕ)) (e : List ℕ) (back : List (List ℕ)) → events ≡ front ++ e ∷ back → Answered (openOf book .table) front e back
+  -- every bond of the book in the table after the list: its price, its replica number, and what they come from
   pub shown : (j : ℕ) → j < entryCount book → Shown book (openOf book .table) events j (jobAt (runOf (openOf book .table) events) j)
   -- "a priced bond stays priced at that price", whatever events follow
   pub stays : (later : List (List ℕ)) (j : ℕ) → jobAt (runOf (openOf book .table) events) j .state ≡ 2
       → jobAt (runOf (openOf book .table) (events ++ later)) j ≡ jobAt (runOf (openOf book .table) events) j
+  -- the further events, from the table the run ended with
   pub further : Further (runOf (openOf book .table) events)

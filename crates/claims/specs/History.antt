@@ -1,5 +1,5 @@
 -- Document 01, "A run, and the words of demand 3": what a list of events did to a table, told from the answers and from the messages delivered along the
--- run. t is the table that the first event is given; each later one is given the table that the event before it returned. Definitions only, all shut.
+-- run. t is the table that the first event is given; each later one is given the table that the event before it returned. Definitions only.
 use Prim.Native.Nat.{ℕ, zero, suc, _+_}
 use mathlib.Core.Bool.{Bool, true, cond, _&&_, _||_}
 use mathlib.Core.List.{List, [], _∷_}
@@ -71,6 +71,7 @@ serialOf book = listOf (λ i. priceBits (bondOf book i)) (entryCount book)
 abbrev pub isFurther : ℕ → Bool
 isFurther code = eqb code 3 || (eqb code 4 || (eqb code 5 || eqb code 7))
 
+-- "(no admission, steal or death)", of every event of a list
 unfoldable pub allFurther : List (List ℕ) → Bool
 allFurther [] = true
 allFurther (e ∷ es) = isFurther (codeOf e) && allFurther es

@@ -1,4 +1,6 @@
-// The program's reading and writing. What it prints is a function of the two files alone (crate page).
+// The program's reading and writing. What it prints is a function of the two files alone (crate page). What stands in the way of reading or writing is
+// said on standard error, since a program has no exit status here.
+use libc::STDERR_FILENO;
 use libc::STDOUT_FILENO;
 ghost use Rattle.io.specs.Counts.{Counts};
 
@@ -8,6 +10,8 @@ fn load(name: &[u8], buf: &mut [u8]) -> usize
 {
     let fd = os::open_read(name);
     if fd < 0 {
+        io::write_all(STDERR_FILENO, name);
+        io::write_all(STDERR_FILENO, b": cannot be opened, counts as empty\n");
         return 0;
     }
     let n = io::read_full(fd, buf);
@@ -19,7 +23,9 @@ fn load(name: &[u8], buf: &mut [u8]) -> usize
 fn print_from(book: &[u8], events: &[u8], out: &mut [u8]) {
     let printed = promised::run_page(book, events, out);
     let length = printed.length;
-    io::write_all(STDOUT_FILENO, &out[0..length]);
+    if !io::write_all(STDOUT_FILENO, &out[0..length]) {
+        io::write_all(STDERR_FILENO, b"the page could not be written whole\n");
+    }
 }
 
 // Prints the page of book.bin and events.bin in the folder where the program is run.

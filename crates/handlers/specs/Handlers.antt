@@ -1,5 +1,5 @@
 -- Document 01, "The table", "Handling, by kind": a message is handled by its kind. What is done for each kind stands in the crates `victim_handlers`,
--- `thief_handlers` and `root_handlers`. Definitions only, all shut.
+-- `thief_handlers` and `root_handlers`. Definitions only.
 use mathlib.Core.Bool.{cond}
 use lib.Dec.{eqb}
 use Rattle.table.specs.declared.Message.{Message}

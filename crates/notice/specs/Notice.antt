@@ -1,4 +1,4 @@
--- Document 01, "The table", event 7: "Notice a b: a is told that b is dead." Definitions only, all shut.
+-- Document 01, "The table", event 7: "Notice a b: a is told that b is dead." Definitions only.
 use mathlib.Core.Bool.{Bool, not, cond, _&&_, _||_}
 use Prim.Native.Nat.{ℕ, _+_}
 use lib.Dec.{eqb}
@@ -39,6 +39,7 @@ reissueOne v b j u = cond (lost v b) (enter (withJob u j (opened (v .replica + 1
 unfoldable pub reissue : Table → ℕ → Table
 reissue t b = upTo (λ j u. reissueOne (jobAt t j) b j u) 64 t
 
+-- "Notice a b": what every machine does, and where a is the root what the root does besides
 unfoldable pub noticed : Table → ℕ → ℕ → Table
 noticed t a b = cond (eqb a 0) (reissue (quieted t a b) b) (quieted t a b)
 

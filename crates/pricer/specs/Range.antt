@@ -34,9 +34,11 @@ yieldInRange y = within lowestYield highestYield y
 abbrev pub periodsInRange : ℕ → Bool
 periodsInRange n = leb 1 n && leb n 240
 
+-- "Coupon lies from 0 to 100, yield from 0 to 1, ends included", for the rates that each case carries
 abbrev pub termsInRange : Terms → Bool
 termsInRange (Zero y) = yieldInRange y
 termsInRange (Fixed c y) = couponInRange c && yieldInRange y
 
+-- a bond whose periods and rates are those of a book
 unfoldable pub inRange : Bond → Bool
 inRange b = periodsInRange (b .periods) && termsInRange (b .terms)

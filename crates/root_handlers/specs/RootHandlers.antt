@@ -1,5 +1,5 @@
 -- Document 01, "The table", "Handling, by kind", REQ, ACK and RESULT: what the root does with a message to it, once it is taken off.
--- Definitions only, all shut.
+-- Definitions only.
 use mathlib.Core.Bool.{not, cond, _&&_, _||_}
 use Prim.Native.Nat.{ℕ}
 use lib.Dec.{eqb}

@@ -94,6 +94,7 @@ pub record Replicas (t : Table) : Type 0 where
   pub running : (m : ℕ) → m < 16 → nodeAt t m .«running_replica» ≤ bound t
   pub messages : (i : ℕ) → i < t .«in_flight» → messageAt t i .replica ≤ bound t
 
+-- none of the conditions of row 9 holds of t
 pub record RowNine (t : Table) : Type 0 where
   pub counts : Counts t
   pub numbers : Numbers t

@@ -39,6 +39,7 @@ carriesOk entries b m = withCopy (m .kind) && copyOk entries b (m .job) (m .repl
 abbrev pub thiefOk : ℕ → Message → Bool
 thiefOk machines m = withThief (m .kind) && ltb (m .thief) machines || not (withThief (m .kind)) && eqb (m .thief) 0
 
+-- a message whose kind, ends and copy are in their ranges, and in which what its kind has no use for is 0
 abbrev pub messageOk : ℕ → ℕ → ℕ → Message → Bool
 messageOk machines entries b m = kindOk m && endsOk machines m && carriesOk entries b m && thiefOk machines m
 

@@ -1,5 +1,5 @@
 -- Document 01, "The table", event 2, with its own refusals in the order of "Where each refusal is checked". What the dispatcher has tested before
--- (9, 10, 11) is not tested again. Definitions only, all shut.
+-- (9, 10, 11) is not tested again. Definitions only.
 use mathlib.Core.Bool.{not, cond}
 use Prim.Native.Nat.{ℕ, _+_}
 use lib.Dec.{eqb, leb}

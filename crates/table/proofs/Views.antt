@@ -1,4 +1,4 @@
--- The laws of the table's views over its updates. Everything but the proofs of code goes by these, with the views shut.
+-- The laws of the table's views over its updates. Everything but the proofs of code goes by these, and unfolds no view.
 -- Assumes nothing.
 use mathlib.Core.Path.{_≡_, refl}
 use mathlib.Core.Logic.{_≢_}

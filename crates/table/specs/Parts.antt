@@ -1,5 +1,5 @@
--- One-part updates of a job and of a machine, the copies and messages that they speak of, and what an event answers. All shut but the messages' kinds:
--- a proof of code opens them by the one name `pieces`.
+-- One-part updates of a job and of a machine, the copies and messages that they speak of, and what an event answers. The updates are opaque: a proof of
+-- code unfolds them by the one name `pieces`.
 use mathlib.Core.Bool.{Bool, not, _&&_}
 use Prim.Native.Nat.{ℕ, _+_}
 use lib.Dec.{eqb}

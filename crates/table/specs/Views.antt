@@ -1,5 +1,5 @@
--- The table as it is read and changed: views of its parts, and one update for each part. All shut: a proof of code opens them by the one name `parts`,
--- any other proof goes by their laws (proofs/Views.antt). Only the updates name every field of a table.
+-- The table as it is read and changed: views of its parts, and one update for each part. Both are opaque: a proof of code unfolds them by the one name
+-- `parts`, any other proof goes by their laws (proofs/Views.antt). Only the updates name every field of a table.
 --
 -- What document 01 lists under "The table", and the field that holds it (j < 64 a job, m < 16 a machine, i < 128 a slot):
 --

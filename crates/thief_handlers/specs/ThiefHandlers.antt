@@ -1,5 +1,5 @@
 -- Document 01, "The table", "Handling, by kind", SCHEDULE and NOWORK: what a thief does with a message to it, once it is taken off.
--- m .to is the machine that handles it. Definitions only, all shut.
+-- m .to is the machine that handles it. Definitions only.
 use Rattle.table.specs.declared.Message.{Message}
 use Rattle.table.specs.declared.Table.{Table}
 use Rattle.table.specs.Views.{nodeAt, withNode, enter}

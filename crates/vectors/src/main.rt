@@ -1,4 +1,5 @@
-// Compares the verdicts on identifiers, the readings of terms and the prices of bonds with those of programs of other authorship
+// Compares the verdicts on identifiers, the readings of terms and the prices of bonds with stored ones: check digits by two programs of other authorship,
+// prices by a C program and by exact rational arithmetic, forms and refusals of terms by the scripts that made the cases
 // (tools/make_isin_vectors.py, tools/make_price_vectors.py). Prints, for each class of the records of a file, how many agree and how
 // many there are.
 //

@@ -1,5 +1,5 @@
 -- Document 01, "The table", "Handling, by kind", FISH, AUTH, DENIED and OBSOLETE: what a victim does with a message to it, once it is taken off.
--- m .to is the machine that handles it. Definitions only, all shut.
+-- m .to is the machine that handles it. Definitions only.
 use mathlib.Core.Bool.{Bool, not, cond}
 use Prim.Native.Nat.{ℕ}
 use lib.Dec.{eqb, leb}

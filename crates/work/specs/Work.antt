@@ -1,5 +1,5 @@
 -- Document 01, "The table", events 4 and 5, each with its own refusals in the order of "Where each refusal is checked". What the dispatcher has tested
--- before (9, 10, 11) is not tested again. Definitions only, all shut.
+-- before (9, 10, 11) is not tested again. Definitions only.
 use mathlib.Core.Bool.{not, cond}
 use Prim.Native.Nat.{ℕ}
 use lib.Dec.{eqb, leb}

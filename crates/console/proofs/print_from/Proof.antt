@@ -24,11 +24,23 @@ part-write-all-end c =
 write-all-requires : tie.Need-write-all-requires
 write-all-requires c κs = search needs
 
+slice-aggregate-write-all : tie.Need-slice-aggregate-write-all
+slice-aggregate-write-all c = search needs
+
+write-all-requires-2 : tie.Need-write-all-requires-2
+write-all-requires-2 c κs = search needs
+
 same-length : tie.Need-same-length
 same-length c = search needs
 
 returns : tie.Need-returns
 returns c = search needs
+
+same-length-2 : tie.Need-same-length-2
+same-length-2 c = search needs
+
+returns-2 : tie.Need-returns-2
+returns-2 c = search needs
 
 pub print-from-spec : {M : Type 1} → statement M
 print-from-spec =
@@ -39,5 +51,9 @@ print-from-spec =
     part-write-all-start
     part-write-all-end
     write-all-requires
+    slice-aggregate-write-all
+    write-all-requires-2
     same-length
-    returns)
+    returns
+    same-length-2
+    returns-2)
