@@ -36,8 +36,8 @@ pageOf book events =
 abbrev pub longest : ℕ
 longest = 463072
 
--- what the function page leaves: a buffer that the longest page does not fit into is refused and unchanged; otherwise the page stands at its front, and
--- the rest of it is unchanged
+-- what the function page leaves: a buffer shorter than that is refused and unchanged; otherwise the page stands at its front, and the rest of it is
+-- unchanged
 unfoldable pub bufferOf : List ℕ → List ℕ → List ℕ → List ℕ
 bufferOf book events out = cond (ltb (length out) longest) out (over out 0 (pageOf book events))
 
