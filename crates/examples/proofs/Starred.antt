@@ -145,8 +145,8 @@ job-after = refl
 -- ---- the rows
 
 pub starred : given ≡ stated
-unfolding rows given stated leafParts
+unfolding rows given stated leafParts opened message
 starred =
     rw (refused-book, opened-number book, accepted-book)
     (rw (answered deadThief, thief-answers, ran beforeReq, req-in-flight, root-told, ran deadThief, denied)
-    (rw (answered lateAck, ack-answers, ran beforeAck, ack-in-flight, job-before, ran lateAck, ack-gone, job-after)))
+    (rw (answered lateAck, ack-answers, ran beforeAck, ack-in-flight, job-before, ran lateAck, ack-gone, job-after) refl))
