@@ -1,5 +1,10 @@
--- The starred examples of document 01, all of them, by computation. Assumes nothing.
+-- The starred examples of document 01, all of them, by computation. A run's tables all pass check 9, which is proved of every run and so is not computed:
+-- an event is answered as 10, 11 and its own refusals say.
+-- Assumes nothing.
+use Prim.Native.Nat.{ℕ}
 use mathlib.Core.Path.{_≡_, refl}
+use mathlib.Core.Bool.{true}
+use mathlib.Core.List.{List, [], _∷_}
 use lib.Ieee.{ofBits, toBits, add, div, le}
 use Rattle.lists.specs.Scan.{all, least, keep, padTo, without, upTo, listOf, countTo}
 use Rattle.isin.specs.Isin.{allIn, formed, expanded, twice, added, total, verdictOf}
@@ -7,11 +12,16 @@ use Rattle.pricer.specs.Price.{zeroAfter, fixedAfter, priceOf, priceBits}
 use Rattle.pricer.specs.Range.{inRange}
 use Rattle.term.specs.Term.{checked, termFrom, termOf}
 use Rattle.book.specs.Book.{sizesInRange, identifierAt, termAt, same, repeated, faultAt, lowestFaulty, lowestFault, bookVerdict}
-use mathlib.Core.List.{[], _∷_}
-use Rattle.table.specs.Views.{flight, jobAt, parts, enter}
+use Rattle.book.specs.Parts.{sizeAt, bondAt, bondOf}
+use Rattle.table.specs.declared.Table.{Table}
+use Rattle.table.specs.declared.Answer.{Answer}
+use Rattle.table.specs.Views.{flight, jobAt, toldAt, parts, enter}
 use Rattle.table.specs.Messages.{push, pull, sift, send, oldest, lowest, wipe}
-use Rattle.table.specs.Parts.{pieces, copyIs, reserves, returned, message, result, opened, DENIED}
-use Rattle.opening.specs.Opening.{blank, nodesOf}
+use Rattle.table.specs.Parts.{pieces, copyIs, reserves, returned, message, result, opened, REQ, DENIED, ACK}
+use Rattle.table.proofs.Views.{Sized}
+use Rattle.validity.specs.Validity.{tableOk}
+use Rattle.opening.specs.Opening.{blank, bondsOf, nodesOf, freshOf, openOf}
+use Rattle.opening.proofs.Shown.{sized-fresh, opened-number, opened-table}
 use Rattle.victim_handlers.specs.VictimHandlers.{noWork, grant, onFish, onAuth, onDenied, onObsolete}
 use Rattle.thief_handlers.specs.ThiefHandlers.{onSchedule, onNoWork}
 use Rattle.root_handlers.specs.RootHandlers.{reply, onReq, onAck, onResult}
@@ -20,25 +30,123 @@ use Rattle.events.specs.Events.{admitted, admitOf, delivered, deliverOf, died, 
 use Rattle.steal.specs.Steal.{stolen, stealOf}
 use Rattle.work.specs.Work.{started, startOf, finished, doneOf}
 use Rattle.notice.specs.Notice.{informed, unwaited, reclaimed, quieted, reissueOne, reissue, noticed, noticeOf}
-use Rattle.dispatcher.specs.Step.{formed as eventFormed, numbered, eventOf, answerOf}
-use Rattle.examples.specs.Rows.{three, after, deadThief, beforeAck, lateAck, bookWith, given, stated}
+use Rattle.dispatcher.specs.Step.{formed as eventFormed, numbered, eventOf, answerOf, stepOf, runOf}
+use Rattle.dispatcher.proofs.Kept.{step-answer, step-sized, step-ok}
+use Rattle.fresh.proofs.Passes.{fresh-passes}
+use Rattle.claims.specs.History.{answersOf}
+use Rattle.examples.specs.Rows.{bookWith, book, fresh, allAccepted, beforeReq, deadThief, beforeAck, lateAck, rows, given, stated}
 
-thief-row : flight (after three deadThief) ≡ message DENIED 0 0 0 1 2 ∷ []
-unfolding three after ofBits all least keep padTo without upTo listOf countTo parts enter push pull sift send oldest lowest wipe pieces copyIs reserves returned message result blank nodesOf noWork grant onFish reply onReq onAuth onDenied onObsolete onSchedule onNoWork onAck onResult handle admitted admitOf stolen stealOf delivered deliverOf started startOf finished doneOf died dieOf informed unwaited reclaimed quieted reissueOne reissue noticed noticeOf eventFormed numbered eventOf answerOf
-thief-row = refl
+-- ---- what is computed, each group opened by one name
 
-before-row : jobAt (after three beforeAck) 0 ≡ opened 2
-unfolding three after ofBits all least keep padTo without upTo listOf countTo parts enter push pull sift send oldest lowest wipe pieces copyIs reserves returned message result blank nodesOf noWork grant onFish reply onReq onAuth onDenied onObsolete onSchedule onNoWork onAck onResult handle admitted admitOf stolen stealOf delivered deliverOf started startOf finished doneOf died dieOf informed unwaited reclaimed quieted reissueOne reissue noticed noticeOf eventFormed numbered eventOf answerOf
-before-row = refl
+unfoldable leafParts : ℕ
+unfolding all least allIn formed expanded twice added total verdictOf ofBits toBits add div le zeroAfter fixedAfter priceOf priceBits
+leafParts = 0
 
-ack-row : jobAt (after three lateAck) 0 ≡ opened 2
-unfolding three after ofBits all least keep padTo without upTo listOf countTo parts enter push pull sift send oldest lowest wipe pieces copyIs reserves returned message result blank nodesOf noWork grant onFish reply onReq onAuth onDenied onObsolete onSchedule onNoWork onAck onResult handle admitted admitOf stolen stealOf delivered deliverOf started startOf finished doneOf died dieOf informed unwaited reclaimed quieted reissueOne reissue noticed noticeOf eventFormed numbered eventOf answerOf
-ack-row = refl
+unfoldable bookParts : ℕ
+unfolding leafParts inRange checked termFrom termOf sizesInRange identifierAt termAt same repeated faultAt lowestFaulty lowestFault bookVerdict
+bookParts = 0
 
-book-row : bookVerdict (bookWith 241) ≡ 7
-unfolding allIn formed expanded twice added total verdictOf ofBits toBits add div le zeroAfter fixedAfter priceOf priceBits inRange checked termFrom termOf sizesInRange identifierAt termAt same repeated faultAt lowestFaulty lowestFault bookVerdict all least
-book-row = refl
+unfoldable freshParts : ℕ
+unfolding bookParts sizeAt bondAt bondOf padTo listOf blank bondsOf nodesOf freshOf openOf
+freshParts = 0
+
+unfoldable handlerParts : ℕ
+unfolding push pull sift send oldest lowest wipe copyIs reserves returned message result noWork grant onFish reply onReq onAuth onDenied onObsolete onSchedule onNoWork onAck onResult handle
+handlerParts = 0
+
+unfoldable eventParts : ℕ
+unfolding handlerParts keep without upTo countTo parts enter pieces admitted admitOf stolen stealOf delivered deliverOf started startOf finished doneOf died dieOf informed unwaited reclaimed quieted reissueOne reissue noticed noticeOf eventFormed numbered eventOf answerOf
+eventParts = 0
+
+-- ---- a run without check 9
+
+unfoldable plainRun : Table → List (List ℕ) → Table
+plainRun t [] = t
+plainRun t (e ∷ es) = plainRun (answerOf t e .table) es
+
+unfoldable plainAnswers : Table → List (List ℕ) → List ℕ
+plainAnswers t [] = []
+plainAnswers t (e ∷ es) = answerOf t e .number ∷ plainAnswers (answerOf t e .table) es
+
+run-plain : (t : Table) (es : List (List ℕ)) → Sized t → tableOk t ≡ true → runOf t es ≡ plainRun t es
+unfolding runOf plainRun
+run-plain t [] s h = refl
+run-plain t (e ∷ es) s h = rw (← step-answer t e h) (run-plain (stepOf t e .table) es (step-sized t e s) (step-ok t e s h))
+
+answers-plain : (t : Table) (es : List (List ℕ)) → Sized t → tableOk t ≡ true → answersOf t es ≡ plainAnswers t es
+unfolding answersOf plainAnswers
+answers-plain t [] s h = refl
+answers-plain t (e ∷ es) s h = rw (← step-answer t e h, answers-plain (stepOf t e .table) es (step-sized t e s) (step-ok t e s h))
+
+-- ---- the books
+
+refused-book : bookVerdict (bookWith 2 241) ≡ 7
+unfolding bookParts
+refused-book = refl
+
+accepted-book : bookVerdict book ≡ 0
+unfolding bookParts
+accepted-book = refl
+
+-- the table opened from the book passes check 9, so its runs are those without it
+
+fresh-sized : Sized fresh
+fresh-sized = rw (opened-table book accepted-book) (sized-fresh book)
+
+fresh-valid : tableOk fresh ≡ true
+fresh-valid = rw (opened-table book accepted-book) (fresh-passes book accepted-book)
+
+ran : (es : List (List ℕ)) → runOf fresh es ≡ plainRun fresh es
+ran es = run-plain fresh es fresh-sized fresh-valid
+
+answered : (es : List (List ℕ)) → answersOf fresh es ≡ plainAnswers fresh es
+answered es = answers-plain fresh es fresh-sized fresh-valid
+
+-- ---- the dead thief
+
+thief-answers : plainAnswers fresh deadThief ≡ allAccepted deadThief
+unfolding freshParts eventParts plainAnswers
+thief-answers = refl
+
+req-in-flight : flight (plainRun fresh beforeReq) ≡ message REQ 0 0 0 1 2 ∷ []
+unfolding freshParts eventParts plainRun
+req-in-flight = refl
+
+root-told : toldAt (plainRun fresh beforeReq) 0 2 ≡ 1
+unfolding freshParts eventParts plainRun
+root-told = refl
+
+denied : flight (plainRun fresh deadThief) ≡ message DENIED 0 0 0 1 2 ∷ []
+unfolding freshParts eventParts plainRun
+denied = refl
+
+-- ---- the late ACK
+
+ack-answers : plainAnswers fresh lateAck ≡ allAccepted lateAck
+unfolding freshParts eventParts plainAnswers
+ack-answers = refl
+
+ack-in-flight : flight (plainRun fresh beforeAck) ≡ message ACK 2 0 0 1 0 ∷ []
+unfolding freshParts eventParts plainRun
+ack-in-flight = refl
+
+job-before : jobAt (plainRun fresh beforeAck) 0 ≡ opened 2
+unfolding freshParts eventParts plainRun
+job-before = refl
+
+ack-gone : flight (plainRun fresh lateAck) ≡ []
+unfolding freshParts eventParts plainRun
+ack-gone = refl
+
+job-after : jobAt (plainRun fresh lateAck) 0 ≡ opened 2
+unfolding freshParts eventParts plainRun
+job-after = refl
+
+-- ---- the rows
 
 pub starred : given ≡ stated
-unfolding given stated allIn formed expanded twice added total verdictOf ofBits toBits add div le zeroAfter fixedAfter priceOf priceBits inRange checked termFrom termOf
-starred = rw (thief-row, before-row, ack-row, book-row)
+unfolding rows given stated leafParts opened message
+starred =
+    rw (refused-book, opened-number book, accepted-book)
+    (rw (answered deadThief, thief-answers, ran beforeReq, req-in-flight, root-told, ran deadThief, denied)
+    (rw (answered lateAck, ack-answers, ran beforeAck, ack-in-flight, job-before, ran lateAck, ack-gone, job-after) refl))

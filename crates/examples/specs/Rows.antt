@@ -1,30 +1,41 @@
--- Document 01, "Examples": the starred ones, each as what a definition gives and what the paper says. Definitions only.
+-- Document 01, "Examples": the starred ones, in its order, each as what a definition gives and what the paper says. Definitions only.
 use Prim.Native.Nat.{ℕ}
-use mathlib.Core.List.{List, [], _∷_, _++_}
+use mathlib.Core.List.{List, [], _∷_, _++_, map}
+use lib.ListN.{length, replicate}
 use lib.Ieee.{binary64, ofBits}
-use Rattle.lists.specs.Scan.{padTo}
 use Rattle.isin.specs.Isin.{verdictOf}
 use Rattle.pricer.specs.Price.{priceBits}
 use Rattle.pricer.specs.declared.Bond.{Bond}
 use Rattle.pricer.specs.declared.Terms.{Terms}
 use Rattle.pricer.specs.declared.Terms.the-variants.{Zero, Fixed}
 use Rattle.book.specs.Book.{bookVerdict}
-use Rattle.book.specs.Parts.{noBond}
 use Rattle.table.specs.declared.Job.{Job}
 use Rattle.table.specs.declared.Message.{Message}
 use Rattle.table.specs.declared.Table.{Table}
 use Rattle.table.specs.declared.Answer.{Answer}
-use Rattle.table.specs.Views.{jobAt, flight}
-use Rattle.table.specs.Parts.{opened, message, DENIED}
-use Rattle.opening.specs.Opening.{blank, nodesOf}
-use Rattle.dispatcher.specs.Step.{answerOf}
+use Rattle.table.specs.Views.{jobAt, toldAt, flight}
+use Rattle.table.specs.Parts.{opened, message, REQ, DENIED, ACK}
+use Rattle.opening.specs.Opening.{openOf}
+use Rattle.dispatcher.specs.Step.{runOf}
+use Rattle.claims.specs.History.{answersOf}
 
 -- what a row speaks of
 pub data Outcome : Type 0 where
   number : ℕ → Outcome
+  numbers : List ℕ → Outcome
   price : ℕ → Outcome
   inFlight : List Message → Outcome
   job : Job → Outcome
+
+-- what a definition gives, and what the paper says
+pub data Row : Type 0 where
+  row : Outcome → Outcome → Row
+
+abbrev pub givenIn : Row → Outcome
+givenIn (row g s) = g
+
+abbrev pub statedIn : Row → Outcome
+statedIn (row g s) = s
 
 -- ---- identifiers
 
@@ -61,26 +72,33 @@ zero-half = bond 2 (Zero (ofBits binary64 0x3FE0_0000_0000_0000))
 abbrev pub ten : Bond
 ten = bond 1 (Fixed (ofBits binary64 0x4024_0000_0000_0000) (ofBits binary64 0x3FE0_0000_0000_0000))
 
--- ---- a book of one entry, ZZ0000000016, coupon 4, yield 0, with these periods
+-- ---- a book of so many machines and one entry: ZZ0000000016, coupon 4, yield 0, with these periods
 
-abbrev pub bookWith : ℕ → List ℕ
-bookWith n = 2 ∷ 0 ∷ 1 ∷ 0 ∷ zz16 ++ 2 ∷ n ∷ 0 ∷ 0 ∷ 0 ∷ 0 ∷ 0 ∷ 0 ∷ 0 ∷ 16 ∷ 64 ∷ 0 ∷ 0 ∷ 0 ∷ 0 ∷ 0 ∷ 0 ∷ 0 ∷ 0 ∷ []
+abbrev pub bookWith : ℕ → ℕ → List ℕ
+bookWith m n = m ∷ 0 ∷ 1 ∷ 0 ∷ zz16 ++ 2 ∷ n ∷ 0 ∷ 0 ∷ 0 ∷ 0 ∷ 0 ∷ 0 ∷ 0 ∷ 16 ∷ 64 ∷ 0 ∷ 0 ∷ 0 ∷ 0 ∷ 0 ∷ 0 ∷ 0 ∷ 0 ∷ []
 
--- ---- runs of three machines and one bond; every table of a run passes check 9, so `answerOf` answers as `stepOf` does
+-- ---- runs of three machines and one bond
 
-unfoldable pub three : Table
-three = blank 3 1 (padTo 64 noBond (four ∷ [])) (nodesOf 3)
+abbrev pub book : List ℕ
+book = bookWith 3 2
+
+abbrev pub fresh : Table
+fresh = openOf book .table
 
 abbrev pub event : ℕ → ℕ → ℕ → List ℕ
 event code a b = code ∷ a ∷ b ∷ []
 
-unfoldable pub after : Table → List (List ℕ) → Table
-after t [] = t
-after t (e ∷ es) = after (answerOf t e .table) es
+-- every one of these events is answered 0
+abbrev pub allAccepted : List (List ℕ) → List ℕ
+allAccepted es = replicate (length es) 0
 
--- machine 2 steals from the root, dies, the root is told, and then has its own REQ for machine 2 delivered
+-- machine 2 steals from the root, dies, and the root is told; the root's REQ for machine 2 is still in flight, from the root to itself
+abbrev pub beforeReq : List (List ℕ)
+beforeReq = event 1 0 0 ∷ event 2 2 0 ∷ event 3 2 0 ∷ event 6 2 0 ∷ event 7 0 2 ∷ []
+
+-- and it is delivered
 abbrev pub deadThief : List (List ℕ)
-deadThief = event 1 0 0 ∷ event 2 2 0 ∷ event 3 2 0 ∷ event 6 2 0 ∷ event 7 0 2 ∷ event 3 0 0 ∷ []
+deadThief = beforeReq ++ event 3 0 0 ∷ []
 
 -- machine 1 steals the job from the root, and machine 2 from machine 1; machine 1 dies and the root is told before the ACK of machine 2 comes
 abbrev pub beforeAck : List (List ℕ)
@@ -88,40 +106,49 @@ beforeAck =
     event 1 0 0 ∷ event 2 1 0 ∷ event 3 1 0 ∷ event 3 0 0 ∷ event 3 0 0 ∷ event 3 0 1 ∷ event 3 1 0
     ∷ event 2 2 1 ∷ event 3 2 1 ∷ event 3 1 0 ∷ event 3 0 1 ∷ event 3 1 2 ∷ event 6 1 0 ∷ event 7 0 1 ∷ []
 
+-- and it comes
 abbrev pub lateAck : List (List ℕ)
 lateAck = beforeAck ++ event 3 2 0 ∷ []
 
 -- ---- the rows
 
-unfoldable pub given : List Outcome
-unfolding three after
-given =
-    number (verdictOf zz16)
-    ∷ number (verdictOf zz24)
-    ∷ number (verdictOf us)
-    ∷ number (verdictOf zz17)
-    ∷ price (priceBits four)
-    ∷ price (priceBits zero-half)
-    ∷ price (priceBits ten)
-    ∷ number (bookVerdict (bookWith 241))
-    ∷ inFlight (flight (after three deadThief))
-    ∷ job (jobAt (after three beforeAck) 0)
-    ∷ job (jobAt (after three lateAck) 0)
+unfoldable pub rows : List Row
+rows =
+    -- "ZZ0000000016, ZZ0000000024 and US0378331005 pass"
+    row (number (verdictOf zz16)) (number 0)
+    ∷ row (number (verdictOf zz24)) (number 0)
+    ∷ row (number (verdictOf us)) (number 0)
+    -- "ZZ0000000017 is refused 5"
+    ∷ row (number (verdictOf zz17)) (number 5)
+    -- "Coupon 4, yield 0, 2 periods: 104." Prices are compared as their 64 bits
+    ∷ row (price (priceBits four)) (price 0x405A_0000_0000_0000)
+    -- "Zero, yield 0.5, 2 periods: 64."
+    ∷ row (price (priceBits zero-half)) (price 0x4050_0000_0000_0000)
+    -- "Coupon 10, yield 0.5, 1 period: 84."
+    ∷ row (price (priceBits ten)) (price 0x4055_0000_0000_0000)
+    -- "241 is refused 7"
+    ∷ row (number (bookVerdict (bookWith 2 241))) (number 7)
+    -- the book of the two runs below is accepted
+    ∷ row (number (openOf book .number)) (number 0)
+    -- "Dead thief: its REQ reaches a root already told: DENIED." Every event is accepted; before the last one the REQ (job 0, replica 1, thief 2) is in
+    -- flight and the root has been told of machine 2, after it the answer is in flight
+    ∷ row (numbers (answersOf fresh deadThief)) (numbers (allAccepted deadThief))
+    ∷ row (inFlight (flight (runOf fresh beforeReq))) (inFlight (message REQ 0 0 0 1 2 ∷ []))
+    ∷ row (number (toldAt (runOf fresh beforeReq) 0 2)) (number 1)
+    ∷ row (inFlight (flight (runOf fresh deadThief))) (inFlight (message DENIED 0 0 0 1 2 ∷ []))
+    -- "Late ACK with an old replica: place unchanged." Every event is accepted; before the last one the ACK of machine 2 (job 0, replica 1) is in flight
+    -- and the job is open with replica 2, on the root; after it the ACK is gone and the job is as before
+    ∷ row (numbers (answersOf fresh lateAck)) (numbers (allAccepted lateAck))
+    ∷ row (inFlight (flight (runOf fresh beforeAck))) (inFlight (message ACK 2 0 0 1 0 ∷ []))
+    ∷ row (job (jobAt (runOf fresh beforeAck) 0)) (job (opened 2))
+    ∷ row (inFlight (flight (runOf fresh lateAck))) (inFlight [])
+    ∷ row (job (jobAt (runOf fresh lateAck) 0)) (job (opened 2))
     ∷ []
 
--- "ZZ0000000016, ZZ0000000024 and US0378331005 pass; ZZ0000000017 is refused 5"; "104", "64", "84" as bits; "241 is refused 7";
--- "Dead thief: its REQ reaches a root already told: DENIED"; "Late ACK with an old replica: place unchanged"
+unfoldable pub given : List Outcome
+unfolding rows
+given = map givenIn rows
+
 unfoldable pub stated : List Outcome
-stated =
-    number 0
-    ∷ number 0
-    ∷ number 0
-    ∷ number 5
-    ∷ price 0x405A_0000_0000_0000
-    ∷ price 0x4050_0000_0000_0000
-    ∷ price 0x4055_0000_0000_0000
-    ∷ number 7
-    ∷ inFlight (message DENIED 0 0 0 1 2 ∷ [])
-    ∷ job (opened 2)
-    ∷ job (opened 2)
-    ∷ []
+unfolding rows
+stated = map statedIn rows
