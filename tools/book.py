@@ -8,15 +8,21 @@ It needs Python's standard library only.
 
 The CSV has the header identifier,kind,periods,coupon,yield and then a row for each bond. The kind is zero or fixed, the
 periods are half-years, the coupon is a year's per 100 of face (empty or 0 for a zero), the yield is a year's as a fraction.
-Rates are decimal texts, read as Python's float() reads them. A row that begins with # is a comment; the comment
-"# machines 4" states the machine count. --machines states it too and goes first; where neither does, it is 4.
+Rates are decimal texts, read as Python's float() reads them, but without its underscores and digits of other scripts.
 
-make writes nothing where the book would be refused, and names each faulty cell: rows are counted as a spreadsheet counts
-them, the header among them, and the number is that of document 01, "Where each refusal is checked". --anyway writes the
-faulty book all the same, as far as it has a place for what the cells say: a kind is then a number from 0 to 255 too, and an
-identifier is filled with spaces or cut to 12 bytes.
+A row that begins with # is a comment; the comment "# machines 4" states the machine count. Small and capital letters, a colon
+or an equals sign after the word, and the number in the next cell are read too ("#Machines: 4", "# machines,4"). Any other
+comment that begins with the word stops the tool, and so do two that state different counts. --machines goes before what the
+comment states; where neither states a count it is 4, and make says so.
 
-show prints the CSV of a book, from which make makes the same bytes.
+make writes nothing where the book would be refused, and names each faulty cell, from the first row to the last: rows are
+counted as a spreadsheet counts them, the header among them, and the number is that of document 01, "Where each refusal is
+checked". A cell without a meaning, as a kind that is no word of the list, has no number. --anyway writes the faulty book all
+the same, as far as it has a place for what the cells say: a kind is then a number from 0 to 255 too, and an identifier is
+filled with spaces or cut to 12 bytes.
+
+show prints the CSV of a book, from which make makes the same bytes again where the book is accepted. A refused book may have
+bytes that a CSV does not hold, as a spare byte that is not 0.
 """
 import argparse
 import csv
@@ -35,6 +41,7 @@ MOST_ENTRIES = 64
 TERM = struct.Struct("<BBBdd")  # kind, periods, spare, coupon, yield
 FORM = re.compile(rb"[A-Z]{2}[A-Z0-9]{9}[0-9]")
 DOUBLED = [0, 2, 4, 6, 8, 1, 3, 5, 7, 9]
+SHOWN_ROWS = range(3, 3 + MOST_ENTRIES)  # of the entries as show prints them, after the machine count and the header
 
 
 class Entry(typing.NamedTuple):
@@ -47,9 +54,9 @@ class Entry(typing.NamedTuple):
 
 
 class Fault(typing.NamedTuple):
-    number: int  # document 01's
-    entry: typing.Optional[int]  # none where a size is at fault
-    column: str
+    number: typing.Optional[int]  # document 01's; none where a cell has no meaning
+    row: typing.Optional[int]  # of the CSV; none where a size is at fault
+    column: typing.Optional[str]  # none where it is not of one cell
     text: str
 
 
@@ -63,7 +70,7 @@ def check_digit(base):
     return -total % 10
 
 
-def identifier_faults(entries, i):
+def identifier_faults(entries, i, rows):
     """At most one: 4, 5 or 6."""
     identifier = entries[i].identifier
     if not FORM.fullmatch(identifier):
@@ -71,7 +78,7 @@ def identifier_faults(entries, i):
     if check_digit(identifier[:11]) != int(identifier[11:]):
         return [(5, f"the check digit of {shown(identifier)} is {check_digit(identifier[:11])}")]
     earlier = [k for k in range(i) if entries[k].identifier == identifier]
-    return [(6, f"{shown(identifier)} is the identifier of entry {earlier[0]} too")] if earlier else []
+    return [(6, f"{shown(identifier)} is the identifier of row {rows[earlier[0]]} too")] if earlier else []
 
 
 def term_faults(entry):
@@ -92,28 +99,27 @@ def term_faults(entry):
 
 def size_faults(machines, n):
     if not 2 <= machines <= 16:
-        yield Fault(2, None, "machines", f"{machines} is outside 2 to 16")
+        yield Fault(2, None, None, f"machines: {machines} is outside 2 to 16")
     if not 0 <= n <= MOST_ENTRIES:
-        yield Fault(2, None, "entries", f"{n} is outside 0 to {MOST_ENTRIES}")
+        yield Fault(2, None, None, f"{n} bonds, and a book has {MOST_ENTRIES} at most")
 
 
-def faults(machines, entries):
-    """Every fault. The book's number is that of the first one."""
-    yield from size_faults(machines, len(entries))
+def entry_faults(entries, rows=SHOWN_ROWS):
+    """Every fault of the entries, which stand in these rows. The number of a book of the right sizes is that of the first one."""
     for i, entry in enumerate(entries):
-        yield from (Fault(number, i, "identifier", text) for number, text in identifier_faults(entries, i))
-        yield from (Fault(7, i, column, text) for column, text in term_faults(entry))
+        yield from (Fault(number, rows[i], "identifier", text) for number, text in identifier_faults(entries, i, rows))
+        yield from (Fault(7, rows[i], column, text) for column, text in term_faults(entry))
 
 
 def shape_fault(book):
     """The refusals 1, 2 and 3, after which a book has no entries to look at."""
     if len(book) < 4:
-        return Fault(1, None, "length", f"{len(book)} bytes, and a book has 4 at least")
+        return Fault(1, None, None, f"{len(book)} bytes, and a book has 4 at least")
     machines, n = struct.unpack_from("<HH", book)
     for fault in size_faults(machines, n):
         return fault
     if len(book) != 4 + 31 * n:
-        return Fault(3, None, "length", f"{len(book)} bytes, and a book of {n} entries has {4 + 31 * n}")
+        return Fault(3, None, None, f"{len(book)} bytes, and a book of {n} bonds has {4 + 31 * n}")
     return None
 
 
@@ -130,7 +136,7 @@ def number_of(book):
     shape = shape_fault(book)
     if shape:
         return shape.number
-    return next((fault.number for fault in faults(*parts(book))), 0)
+    return next((fault.number for fault in entry_faults(parts(book)[1])), 0)
 
 
 def book_of(machines, entries):
@@ -155,12 +161,20 @@ def read_csv(text):
 
 
 def stated_machines(rows):
-    """The machine count of the comment "# machines N", if there is one."""
-    for _, row in rows:
-        found = re.fullmatch(r"#\s*machines\s+([0-9]{1,9})\s*", row[0])
-        if found:
-            return int(found[1])
-    return None
+    """The machine count that a comment states, or none, and the faults of comments that should state it and do not."""
+    stated, first, found = None, None, []
+    for number, row in rows:
+        comment = " ".join(row).rstrip()
+        if not re.match(r"#\s*machines", comment, re.IGNORECASE):
+            continue
+        count = re.fullmatch(r"#\s*machines(?:\s*[:=]\s*|\s+)([0-9]{1,9})", comment, re.IGNORECASE)
+        if not count:
+            found.append(Fault(None, number, None, f"{comment!r} states no machine count; it is written # machines 4"))
+        elif stated is None:
+            stated, first = int(count[1]), number
+        elif int(count[1]) != stated:
+            found.append(Fault(None, number, None, f"{comment!r}, and row {first} states {stated} machines"))
+    return stated, found
 
 
 def without_header(rows):
@@ -170,52 +184,79 @@ def without_header(rows):
     return rows[1:]
 
 
-def entry_of(number, row, anyway):
-    """The entry that a row states. A cell without a meaning has no number of document 01 and cannot be written."""
-    if len(row) != len(COLUMNS):
-        raise desk.Stop(f"row {number}: {len(row)} cells, and the header has {len(COLUMNS)}")
-    cells = dict(zip(COLUMNS, row))
-    kind = in_cell(number, cells, "kind", lambda text: kind_of(text, anyway), "is neither zero nor fixed")
-    periods = in_cell(number, cells, "periods", int, "is not a whole number")
-    if kind == ZERO and not cells["coupon"].strip():
-        cells["coupon"] = "0"
-    coupon = in_cell(number, cells, "coupon", float, "is not a number")
-    ytm = in_cell(number, cells, "yield", float, "is not a number")
-    return Entry(cells["identifier"].encode("utf-8"), kind, periods, 0, coupon, ytm)
+class Row:
+    """A row of the header's length: the entry that it states, and the faults of its cells without a meaning.
+
+    Such a cell has no number of document 01 and cannot be written. In the entry stands a value that the rules accept, so that
+    the other cells can be held against them.
+    """
+
+    def __init__(self, number, row, anyway):
+        self.number, self.cells, self.faults = number, dict(zip(COLUMNS, row)), []
+        bare = not self.cells["coupon"].strip()
+        kind = self.read("kind", lambda text: kind_of(text, anyway), "is neither zero nor fixed", ZERO if bare else FIXED)
+        periods = self.read("periods", lambda text: int(plain(text)), "is not a whole number", 1)
+        coupon = 0.0 if bare and kind == ZERO else self.read_rate("coupon")
+        self.entry = Entry(self.cells["identifier"].encode("utf-8"), kind, periods, 0, coupon, self.read_rate("yield"))
+
+    def read(self, column, meaning, fault, accepted):
+        try:
+            return meaning(self.cells[column])
+        except (KeyError, ValueError):
+            self.faults.append(Fault(None, self.number, column, f"{self.cells[column]!r} {fault}"))
+            return accepted
+
+    def read_rate(self, column):
+        return self.read(column, lambda text: float(plain(text)), "is not a number", 0.0)
 
 
 def kind_of(text, anyway):
     text = text.strip().lower()
-    return int(text) if anyway and text.isdecimal() else KINDS[text]
+    return int(plain(text)) if anyway and text.isdecimal() else KINDS[text]
 
 
-def in_cell(number, cells, column, read, fault):
-    try:
-        return read(cells[column])
-    except (KeyError, ValueError):
-        raise desk.Stop(f"row {number}, column {column}: {cells[column]!r} {fault}") from None
+def plain(text):
+    """The text of a number. int() and float() read 2_0 as 20, and digits of other scripts, which a cell hardly means."""
+    text = text.strip()
+    if "_" in text or not text.isascii():
+        raise ValueError
+    return text
 
 
-def told(fault, rows):
+def read_rows(rows, anyway):
+    """The rows that have the header's length, and the faults of the others and of cells without a meaning."""
+    read = [Row(number, row, anyway) for number, row in rows if len(row) == len(COLUMNS)]
+    found = [Fault(None, number, None, f"{len(row)} cells, and the header has {len(COLUMNS)}")
+             for number, row in rows if len(row) != len(COLUMNS)]
+    return read, found + [fault for row in read for fault in row.faults]
+
+
+def told(fault):
     """A fault as a line: the row and the column, what is wrong, and the number."""
-    where = f"column {fault.column}" if fault.column != "machines" else "machines"
-    if fault.entry is not None:
-        where = f"row {rows[fault.entry]}, {where}"
-    return f"{where}: {fault.text} (refused {fault.number})"
+    where = f"row {fault.row}" + (f", column {fault.column}" if fault.column else "") + ": " if fault.row else ""
+    return where + fault.text + (f" (refused {fault.number})" if fault.number else "")
+
+
+def place(fault):
+    """For the order of the lines: the sizes, then row by row and from left to right."""
+    return fault.row or 0, COLUMNS.index(fault.column) if fault.column else -1
 
 
 def make(text, machines=None, anyway=False):
     """The bytes of the book that a CSV states."""
-    rows = read_csv(text)
-    if machines is None:
-        machines = stated_machines(rows)
-    if machines is None:
-        machines = MACHINES
+    return made(read_csv(text), machines, anyway)
+
+
+def made(rows, machines, anyway):
+    stated, found = stated_machines(rows)
+    machines = next(count for count in (machines, stated, MACHINES) if count is not None)
     rows = without_header(rows)
-    entries = [entry_of(number, row, anyway) for number, row in rows]
-    found = list(faults(machines, entries))
-    if found and not anyway:
-        raise desk.Stop("\n".join(told(fault, [number for number, _ in rows]) for fault in found))
+    read, more = read_rows(rows, anyway)
+    found, entries = found + more, [row.entry for row in read]
+    if not anyway:
+        found += [*size_faults(machines, len(rows)), *entry_faults(entries, [row.number for row in read])]
+    if found:
+        raise desk.Stop("\n".join(map(told, sorted(found, key=place))))
     try:
         return book_of(machines, entries)
     except struct.error:
@@ -245,10 +286,13 @@ def shown_term(entry):
 
 def command_make(args):
     try:
-        data = make(desk.read_text(args.csv), args.machines, args.anyway)
+        rows = read_csv(desk.read_text(args.csv))
+        data = made(rows, args.machines, args.anyway)
+        if args.machines is None and stated_machines(rows)[0] is None:
+            desk.say(f"no machine count is stated: {MACHINES} machines are taken\n")
     except desk.Stop as stop:
-        raise desk.Stop(f"{stop}\n{args.book} is not written") from None
-    desk.write_bytes(args.book, data)
+        raise desk.Stop(f"{stop}\n{desk.not_written(args.book)}") from None
+    desk.write_bytes(args.book, data, [args.csv])
     if number_of(data) != 0:
         desk.warn(f"{args.book} is a faulty book: refused {number_of(data)}")
 
@@ -258,11 +302,17 @@ def command_show(args):
     shape = shape_fault(book)
     if shape:
         raise desk.Stop(f"{args.book}: {shape.text} (refused {shape.number})")
-    print(show(book), end="")
-    rows = range(3, 3 + MOST_ENTRIES)  # after the machine count and the header
-    found = [told(fault, rows) for fault in faults(*parts(book))]
+    desk.say(show(book))
+    found = [told(fault) for fault in entry_faults(parts(book)[1])]
     if found:
         raise desk.Stop("\n".join(found))
+
+
+def whole_number(text):
+    try:
+        return int(plain(text))
+    except ValueError:
+        raise argparse.ArgumentTypeError(f"{text!r} is not a whole number") from None
 
 
 def main():
@@ -271,7 +321,7 @@ def main():
     making = commands.add_parser("make", help="make book.bin from a CSV file")
     making.add_argument("csv", metavar="BOOK.csv")
     making.add_argument("book", metavar="book.bin")
-    making.add_argument("--machines", type=int, metavar="N", help="machine count, 2 to 16")
+    making.add_argument("--machines", type=whole_number, metavar="N", help="machine count, 2 to 16")
     making.add_argument("--anyway", action="store_true", help="write a faulty book too")
     making.set_defaults(command=command_make)
     showing = commands.add_parser("show", help="print a book as CSV")

@@ -17,8 +17,9 @@ A line is an event; what follows a # is a comment, and empty lines are skipped:
     notice 0 of 3     machine 0 is told that 3 is dead
     raw 9 9 9         any three bytes; as the last line one or two
 
-A number is 0 to 255; whether the dispatcher accepts the event is for the program to say. show prints any events.bin so that
-make makes the same bytes of it, with event k on line k. The program reads no more than the first 60,000 bytes.
+Words are lower case and a number is 0 to 255; whether the dispatcher accepts the event is for the program to say. make writes
+nothing where a line is no event, and names each such line. show prints any events.bin so that make makes the same bytes of it,
+with event k on line k. The program reads no more than the first 60,000 bytes.
 """
 import argparse
 import re
@@ -34,6 +35,8 @@ WORDS = {  # document 01, "Events are three bytes: code, a, b. An unused b is 0.
     6: "die {}",
     7: "notice {} of {}",
 }
+RAW = "raw {} {} {}"
+FORMS = {form.split()[0]: form.replace("{}", "N") for form in [*WORDS.values(), RAW]}  # by the first word
 MOST_READ = 60000  # bytes
 
 
@@ -52,35 +55,51 @@ def text_of(event):
 
 
 def event_of(line):
-    """The bytes of a line without its comment, or none."""
+    """The bytes of a line without its comment. A ValueError says why it has none."""
     words = " ".join(line.split())
     for code, form in WORDS.items():
-        found = re.fullmatch(form.replace("{}", "([0-9]{1,9})"), words, re.ASCII)
+        found = re.fullmatch(form.replace("{}", "([0-9]+)"), words)
         if found:
-            return bytes_of([code, *map(int, found.groups(default=0)), 0][:3])
-    if re.fullmatch(r"raw( [0-9]{1,9}){1,3}", words, re.ASCII):
-        return bytes_of(map(int, words.split()[1:]))
-    return None
+            return bytes([code, *map(byte_of, found.groups()), 0][:3])
+    if re.fullmatch("raw( [0-9]+){1,3}", words):
+        return bytes(map(byte_of, words.split()[1:]))
+    raise ValueError(why_none(words))
 
 
-def bytes_of(numbers):
-    try:
-        return bytes(numbers)
-    except ValueError:
-        return None
+def byte_of(digits):
+    digits = digits.lstrip("0") or "0"
+    if len(digits) > 3 or int(digits) > 255:
+        raise ValueError(f"{digits} is above 255")
+    return int(digits)
+
+
+def why_none(words):
+    """What is wrong with words that have the form of no event."""
+    first = words.split()[0]
+    if first.lower() not in FORMS:
+        return f"{first!r} is none of " + ", ".join(FORMS)
+    if words != words.lower():
+        return "words are lower case"
+    fewer = ", or with fewer N as the last line" if first == "raw" else ""
+    return f"it is written {FORMS[first]}{fewer}, and N is 0 to 255"
 
 
 def make(text):
     """The bytes of a list."""
-    lines = [(place, line.split("#")[0]) for place, line in enumerate(re.split("\r\n|\r|\n", text), 1)]
-    lines = [(place, line) for place, line in lines if line.strip()]
-    events = [(place, event_of(line)) for place, line in lines]
-    faults = [f"line {place}: {line.strip()!r} is no event" for (place, line), (_, event) in zip(lines, events) if event is None]
-    faults += [f"line {place}: only the last line may have fewer than three bytes"
-               for place, event in events[:-1] if event is not None and len(event) < 3]
+    lines = [(place, line.split("#")[0].strip()) for place, line in enumerate(re.split("\r\n|\r|\n", text), 1)]
+    lines = [(place, line) for place, line in lines if line]
+    events, faults = [], []
+    for place, line in lines:
+        try:
+            events.append(event_of(line))
+        except ValueError as fault:
+            faults.append(f"line {place}: {line!r} is no event: {fault}")
+            continue
+        if len(events[-1]) < 3 and place != lines[-1][0]:
+            faults.append(f"line {place}: only the last line may have fewer than three bytes")
     if faults:
         raise desk.Stop("\n".join(faults))
-    return b"".join(event for _, event in events)
+    return b"".join(events)
 
 
 def show(data):
@@ -96,14 +115,14 @@ def command_make(args):
     try:
         data = make(desk.read_text(args.list))
     except desk.Stop as stop:
-        raise desk.Stop(f"{stop}\n{args.events} is not written") from None
-    desk.write_bytes(args.events, data)
+        raise desk.Stop(f"{stop}\n{desk.not_written(args.events)}") from None
+    desk.write_bytes(args.events, data, [args.list])
     warn_of_length(data)
 
 
 def command_show(args):
     data = desk.read_bytes(args.events)
-    print(show(data), end="")
+    desk.say(show(data))
     warn_of_length(data)
 
 

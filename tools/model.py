@@ -1,9 +1,10 @@
 #!/usr/bin/python3
 """The dispatcher of document 01 in Python: the table, its seven events, and the page.
 
-    python3 tools/model.py FOLDER
+    python3 tools/model.py FOLDER [--decimal]
 
-prints the page of the folder's book.bin and events.bin, which the program prints too. It needs Python's standard library only.
+prints the page of the folder's book.bin and events.bin, which the program prints too. With --decimal a price's 16 digits are
+followed by the price as a decimal number, which the program does not print. It needs Python's standard library only.
 
 It is written from document 01's text and shares nothing with the crates. It is the desk's second opinion, and it tells
 picture.py what happened at each event. It holds tables of runs only, which are never refused 9, so it has no check 9.
@@ -275,16 +276,21 @@ class Table:
 # The page.
 
 
+def files_of(folder):
+    return pathlib.Path(folder) / "book.bin", pathlib.Path(folder) / "events.bin"
+
+
 def read_folder(folder):
     """book.bin and events.bin as the program reads them: a file that cannot be opened counts as empty."""
     if not pathlib.Path(folder).is_dir():
         raise desk.Stop(f"{folder} is not a folder")
-    return content(folder, "book.bin"), content(folder, "events.bin")[:lists.MOST_READ]
+    book, events = map(content, files_of(folder))
+    return book, events[:lists.MOST_READ]
 
 
-def content(folder, name):
+def content(path):
     try:
-        return desk.read_bytes(pathlib.Path(folder) / name)
+        return desk.read_bytes(path)
     except desk.Stop:
         return b""
 
@@ -293,28 +299,31 @@ def price_bits(price):
     return struct.pack(">d", price).hex().upper()
 
 
-def job_line(entry, job):
+def job_line(entry, job, decimal):
     if job.state == PRICED:
-        shown = f"priced {price_bits(job.price)} replica {job.replica}"
+        price = price_bits(job.price) + (f" {job.price!r}" if decimal else "")
+        shown = f"priced {price} replica {job.replica}"
     else:
         shown = f"open replica {job.replica}" if job.state == OPEN else "not admitted"
     return f"{entry.identifier.decode('ascii')} {shown}\n"
 
 
-def page(book, events):
+def page(book, events, decimal=False):
     number = books.number_of(book)
     if number != 0:
         return f"book refused {number}\n"
     table = Table(*books.parts(book))
     numbers = [table.step(event)[0] for event in lists.events_of(events)]
     refused = [f"event {place} refused {number}\n" for place, number in enumerate(numbers, 1) if number != 0]
-    return "".join(refused) + "".join(map(job_line, table.entries, table.jobs))
+    return "".join(refused) + "".join(job_line(entry, job, decimal) for entry, job in zip(table.entries, table.jobs))
 
 
 def main():
     parser = argparse.ArgumentParser(description="Print the page of a folder's book.bin and events.bin.")
     parser.add_argument("folder", metavar="FOLDER")
-    print(page(*read_folder(parser.parse_args().folder)), end="")
+    parser.add_argument("--decimal", action="store_true", help="print prices as decimal numbers too")
+    args = parser.parse_args()
+    desk.say(page(*read_folder(args.folder), args.decimal))
 
 
 if __name__ == "__main__":

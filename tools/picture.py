@@ -3,7 +3,9 @@
 
     python3 tools/picture.py FOLDER out.svg [--title TEXT]
 
-The folder has the book.bin and events.bin of the run. It needs Python's standard library only.
+The folder has the book.bin and events.bin of the run; out.svg is none of them. A title that is too long for the picture is
+shortened, and one with a character that XML does not have, as a control character, is refused. A long run makes a picture of
+more than 32,767 pixels, which some programs do not draw; the tool then says so. It needs Python's standard library only.
 
 Time goes down, a row for each event; a machine is a lane, and the line in it is the machine's life. Left of the line stand
 the messages that come to the machine, each at the end of its arrow; right of it are the copies of the bonds that it holds,
@@ -11,12 +13,13 @@ each a bar with the job's number. What happened is told by model.py (by way of h
 """
 import argparse
 import pathlib
+import re
 
 import book as books
 import desk
 import history as runs
 import model
-from svg import cross, curve, cut, line, path, pill_width, rect, tag, text, tip, triangle, width_of, Pill
+from svg import cross, curve, cut, line, path, pill_width, rect, tag, text, tip, triangle, width_of, BOLD, NO_XML, Pill
 
 INK, SOFT, FAINT, PAPER, LANE = "#23292f", "#66707a", "#d5d8d4", "#fbfbf9", "#f1f2ee"
 RED, RED_TINT, DARK, WAITING = "#b3261e", "#fbd5d1", "#343a40", "#d08a00"
@@ -41,6 +44,9 @@ LINE = 18  # height of a row with one pill
 HEADS = 50  # rows after which the names of the lanes stand again
 PLACE, EVENT, NOTE = 38, 112, 268  # widths at the left: place, event, note
 BOND = 17  # height of a line of the list of bonds
+STATE, TERMS, COLUMN = 140, 308, 520  # in the list of bonds: where states begin, where terms and the next column begin at least
+TITLE = 21  # size of its letters
+MOST_PIXELS = 32767  # of a side, which some programs do not go beyond
 
 
 # The layout: where lanes, rows and pills are.
@@ -348,16 +354,17 @@ def bond_line(number, entry, job):
 
 
 def bonds(history, width, top):
-    """The list of the bonds in columns, and where it ends."""
+    """The list of the bonds in columns, wide enough for all that is said of a bond, and where it ends."""
     lines = [bond_line(i, *both) for i, both in enumerate(zip(history.table.entries, history.table.jobs))]
-    columns = max(1, int((width - 2 * MARGIN) // 520))
-    rows = -(-len(lines) // columns)
+    terms = max([TERMS, *(STATE + width_of(state, 10.5) + 6 for _, _, state, _ in lines)])
+    column = max([COLUMN, *(terms + width_of(kind, 9.5) + 6 for _, _, _, kind in lines)])
+    rows = -(-len(lines) // max(1, int((width - 2 * MARGIN) // column)))
     drawn = []
     for at, (number, name, state, kind) in enumerate(lines):
-        x, y = MARGIN + 520 * (at // rows), top + BOND * (at % rows) + BOND / 2
+        x, y = MARGIN + column * (at // rows), top + BOND * (at % rows) + BOND / 2
         drawn += [text(x + 24, y, number, 10.5, text_anchor="end", font_weight="bold"), text(x + 34, y, name, 10.5),
-                  text(x + 140, y, state, 10.5, "#2f6f4a" if state.startswith("priced") else SOFT),
-                  text(x + 308, y, cut(kind, 9.5, 206), 9.5, SOFT)]
+                  text(x + STATE, y, state, 10.5, "#2f6f4a" if state.startswith("priced") else SOFT),
+                  text(x + terms, y, kind, 9.5, SOFT)]
     return drawn, top + BOND * rows
 
 
@@ -368,7 +375,8 @@ HATCH = ('<defs><pattern id="dead" width="7" height="7" patternUnits="userSpaceO
 def drawn(history, title):
     """The whole picture."""
     layout = Layout(history)
-    above = [text(MARGIN, 38, title, 21, font_weight="bold"), text(MARGIN, 66, summary(history), 11.5, SOFT)]
+    short = cut(title, BOLD * TITLE, layout.width - 2 * MARGIN)
+    above = [text(MARGIN, 38, short, TITLE, font_weight="bold"), text(MARGIN, 66, summary(history), 11.5, SOFT)]
     signs, y = legend(layout.width, 86)
     listed, y = bonds(history, layout.width, y + 14)
     layout.place_rows(y + 16)
@@ -380,7 +388,14 @@ def drawn(history, title):
     return (f'<svg xmlns="http://www.w3.org/2000/svg" {size} font-family="{FONT}">\n' + tip(title) + "\n" + "\n".join(parts) + "\n</svg>\n")
 
 
+def check_title(title):
+    found = NO_XML.search(title)
+    if found:
+        raise desk.Stop(f"the title has the character {ascii(found[0])}, which XML does not have")
+
+
 def picture(book, events, title=None):
+    check_title(title or "")
     refused = books.number_of(book)
     if refused:
         raise desk.Stop(f"book refused {refused}: there is no run to draw")
@@ -389,13 +404,21 @@ def picture(book, events, title=None):
     return drawn(history, title or f"{plural(len(entries), 'bond')} on {plural(machines, 'machine')}")
 
 
+def warn_of_size(svg):
+    width, height = map(int, re.search('width="([0-9]+)" height="([0-9]+)"', svg).groups())
+    if max(width, height) > MOST_PIXELS:
+        desk.warn(f"the picture is {width} pixels wide and {height} high: some programs draw none of more than {MOST_PIXELS}")
+
+
 def main():
     parser = argparse.ArgumentParser(description="Draw the run of a folder's book.bin and events.bin.")
     parser.add_argument("folder", metavar="FOLDER")
     parser.add_argument("svg", metavar="out.svg", type=pathlib.Path)
     parser.add_argument("--title", help="the title line")
     args = parser.parse_args()
-    desk.write_bytes(args.svg, picture(*model.read_folder(args.folder), args.title).encode("utf-8"))
+    svg = picture(*model.read_folder(args.folder), args.title)
+    desk.write_bytes(args.svg, svg.encode("utf-8"), model.files_of(args.folder))
+    warn_of_size(svg)
 
 
 if __name__ == "__main__":

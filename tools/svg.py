@@ -2,8 +2,13 @@
 
 It is not run by itself, and needs Python's standard library only.
 """
+import re
+import unicodedata
 from xml.sax.saxutils import escape, quoteattr
 
+NO_XML = re.compile("[^\t\n\r -\ud7ff\ue000-\ufffd\U00010000-\U0010ffff]")  # the characters that XML has no place for
+NARROWEST = 0.34  # of the widths of characters, where the size is 1
+BOLD = 1.15  # about the width of a bold text, where that of the plain one is 1
 PILL_SIZE = 9.5  # of the letters
 PILL_HEIGHT = 14
 
@@ -59,14 +64,24 @@ def cross(x, y, r, stroke, width):
 
 def width_of(words, size):
     """About the width of a text in a wide font, so that it fits in a narrower one too."""
-    return size * sum(0.34 if c in " .,:'|ijl/" else 0.46 if c in "frt()-" else 0.76 if c.isupper() or c in "mw\u2192\u2713\u00d7" else 0.63
-                      for c in words)
+    return size * sum(map(character_width, words))
+
+
+def character_width(c):
+    if c in " .,:'|ijl/":
+        return NARROWEST
+    if c in "frt()-":
+        return 0.46
+    if c.isupper() or c in "mw\u2192\u2713\u00d7":
+        return 0.76
+    return 1.0 if unicodedata.east_asian_width(c) in "WF" else 0.63
 
 
 def cut(words, size, width):
     """The text, or as much of it as fits."""
     if width_of(words, size) <= width:
         return words
+    words = words[:int(width / (NARROWEST * size))]  # no more can fit
     while words and width_of(words + "\u2026", size) > width:
         words = words[:-1]
     return words + "\u2026"

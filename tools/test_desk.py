@@ -7,6 +7,7 @@ It needs Python's standard library only, and writes to a temporary folder. What 
 by other programs: the books of book_cases with their numbers, the page of the sample close.
 """
 import math
+import os
 import pathlib
 import random
 import struct
@@ -22,6 +23,7 @@ import events
 import history
 import model
 import picture
+import svg
 
 ROOT = pathlib.Path(__file__).resolve().parent.parent
 CRATES = ROOT / "crates"
@@ -76,10 +78,10 @@ ZZ0000000024 open replica 1
 """
 
 
-def tool(name, *arguments):
+def tool(name, *arguments, output=subprocess.PIPE, before=None):
     """Runs a tool as the desk does."""
-    command = [sys.executable, str(ROOT / "tools" / name), *map(str, arguments)]
-    return subprocess.run(command, capture_output=True, timeout=60, check=False)
+    command = [sys.executable, str(ROOT / "tools" / name), *map(os.fsencode, map(str, arguments))]
+    return subprocess.run(command, stdout=output, stderr=subprocess.PIPE, preexec_fn=before, timeout=60, check=False)
 
 
 def book_cases():
@@ -140,6 +142,15 @@ class Folder(unittest.TestCase):
             self.assertIn(word, said)
 
 
+    def assert_lines(self, done, *lines):
+        """It failed, and the lines on standard error, after the tool's name, begin so."""
+        self.assert_message(done)
+        said = [line.split(": ", 1)[1] for line in done.stderr.decode("utf-8").splitlines()]
+        self.assertEqual(len(said), len(lines), said)
+        for line, start in zip(said, lines):
+            self.assertTrue(line.startswith(start), (line, start))
+
+
 class Books(Folder):
     def make(self, text, *options):
         done = tool("book.py", "make", self.file("b.csv", text), self.folder / "book.bin", *options)
@@ -186,6 +197,31 @@ class Books(Folder):
         self.assertEqual(book.make("# machines 7,,,,\n" + HEADER)[0], 7)  # as a spreadsheet writes it
         self.assertEqual(self.make("# machines 7\n" + HEADER, "--machines", "9")[1][0], 9)
 
+    def test_comments_that_state_the_machine_count(self):
+        for comment in ("# Machines 3", "# machines: 3", "#machines=3", "#MACHINES : 3", "# machines 3  ", "# machines 003", "# machines,3,,,"):
+            self.assertEqual(book.make(comment + "\n" + HEADER)[0], 3, comment)
+        self.assertEqual(book.make("# machines 3\n" + HEADER + "# Machines: 3\n")[0], 3)
+        self.assertEqual(book.make("# the machines 3\n# a machine\n" + HEADER)[0], 4)
+
+    def test_comments_that_should_state_the_machine_count(self):
+        for comment in ("# machines three", "# machines -1", "# machines 3 at the close", "# machines 10000000000", "# machines", "#Machines3",
+                        "# machines 3.0", "# machines 3,at the close", "# machines \u0663", "# machines :: 3", "# machines 1_0"):
+            self.assert_refused(HEADER + comment + "\n" + GOOD, "row 2: ", "states no machine count")
+        for option in ("--machines=3", "--anyway"):
+            self.assert_refused("# machines three\n" + HEADER + GOOD, "row 1: ", "states no machine count", options=[option])
+
+    def test_machine_counts_that_differ(self):
+        text = "# machines 3\n" + HEADER + "# machines 4\n" + GOOD + "# Machines: 3\n# machines 5\n"
+        self.assert_lines(self.make(text)[0], "row 3: '# machines 4', and row 1 states 3", "row 6: '# machines 5', and row 1 states 3", str(self.folder))
+        self.assertFalse((self.folder / "book.bin").exists())
+
+    def test_the_machine_count_that_is_taken_is_told(self):
+        done, written = self.make(HEADER + GOOD)
+        self.assertEqual((done.returncode, done.stderr, written[0]), (0, b"", 4))
+        self.assertEqual(done.stdout, b"no machine count is stated: 4 machines are taken\n")
+        for text, options in (("# machines 4\n" + HEADER, ()), (HEADER, ("--machines", "4"))):
+            self.assertEqual(self.make(text, *options)[0].stdout, b"")
+
     def test_what_spreadsheets_write(self):
         plain = book.make(HEADER + GOOD + SECOND)
         for text in ("\ufeff" + HEADER + GOOD + SECOND, (HEADER + GOOD + SECOND).replace("\n", "\r\n"), HEADER + GOOD + SECOND + ",,,,\n",
@@ -194,7 +230,7 @@ class Books(Folder):
 
     def test_refused_2(self):
         rows = "".join(f"{name}{book.check_digit(name.encode())},zero,1,,0\n" for name in (f"ZZ{i:09}" for i in range(65)))
-        self.assert_refused(HEADER + rows, "entries", "65", "refused 2")
+        self.assert_refused(HEADER + rows, "65 bonds", "refused 2")
         for machines in ("1", "17", "-1", "70000"):
             self.assert_refused(HEADER + GOOD, "machines", machines, "refused 2", options=["--machines=" + machines])
         self.assert_refused("# machines 1\n" + HEADER + GOOD, "machines", "refused 2")
@@ -207,7 +243,10 @@ class Books(Folder):
         self.assert_refused(HEADER + GOOD.replace("16,", "17,"), "row 2, column identifier", "6 (refused 5)")
 
     def test_refused_6(self):
-        self.assert_refused(HEADER + GOOD + SECOND + GOOD, "row 4, column identifier", "entry 0", "refused 6")
+        self.assert_refused(HEADER + GOOD + SECOND + GOOD, "row 4, column identifier", "identifier of row 2 too", "refused 6")
+        twice = book.make(LISTING_BOOK)
+        shown = tool("book.py", "show", self.file("twice.bin", twice[:16] + twice[4:16] + twice[28:]))
+        self.assert_lines(shown, "row 4, column identifier: ZZ0000000016 is the identifier of row 3 too")
 
     def test_refused_7(self):
         for row, column in (
@@ -231,6 +270,31 @@ class Books(Folder):
             self.assert_refused(HEADER + row + "\n", words)
         for text in ("", GOOD, "identifier,kind,periods,yield,coupon\n" + GOOD):
             self.assert_refused(text, "header")
+
+    def test_every_cell_without_meaning_is_named(self):
+        """In the order of rows and columns, among the cells that have a meaning and are refused."""
+        text = (HEADER + "ZZ0000000017,bill,2.5,4%,no\nZZ0000000016,fixed\n# machines many\n" + GOOD + "ZZ0000000016,bill,0,,2\n")
+        rows = ["row 2, column kind", "row 2, column periods", "row 2, column coupon", "row 2, column yield", "row 3: 2 cells", "row 4: "]
+        self.assert_lines(self.make(text, "--anyway")[0], *rows, "row 6, column kind", str(self.folder))
+        self.assert_lines(self.make(text)[0], "row 2, column identifier", *rows, "row 6, column identifier", "row 6, column kind",
+                          "row 6, column periods", "row 6, column yield", str(self.folder))
+
+    def test_digits_are_plain(self):
+        for row, column in (("fixed,2_0,4,0", "periods"), ("fixed,\u0662,4,0", "periods"), ("fixed,2,1_0,0", "coupon"), ("fixed,2,\uff14,0", "coupon"),
+                            ("fixed,2,4,0.0_5", "yield"), ("fixed,2,4,\u0660", "yield")):
+            for options in ((), ("--anyway",)):
+                self.assert_refused(HEADER + f"ZZ0000000016,{row}\n", f"row 2, column {column}", options=options)
+        self.assert_refused(HEADER + "ZZ0000000016,\u0662,2,4,0\n", "row 2, column kind", options=["--anyway"])
+        for count in ("1_0", "\u0664"):
+            self.assert_refused(HEADER + GOOD, "whole number", options=["--machines", count])
+        self.assertEqual(book.make(HEADER + "ZZ0000000016,Fixed, +2 ,\u00a04e0,.0\n"), book.make(HEADER + GOOD))
+
+    def test_an_old_book_is_left(self):
+        self.assertNotIn(b"old", self.make(HEADER + SECOND + SECOND)[0].stderr)
+        old = self.make(HEADER + GOOD)[1]
+        done, written = self.make(HEADER + SECOND + SECOND)
+        self.assert_message(done, "book.bin is not written; the old one is left as it was")
+        self.assertEqual(written, old)
 
     def test_anyway(self):
         for row, number in (("ZZ000000016 ,fixed,2,4,0", 4), ("ZZ0000000017,fixed,2,4,0", 5), ("Z,3,255,nan,9", 4), ("ZZ0000000016,3,2,4,0", 7),
@@ -279,6 +343,23 @@ class Events(Folder):
             self.assert_message(tool("events.py", "make", path, self.folder / "events.bin"), "line 3", "not written")
             self.assertFalse((self.folder / "events.bin").exists())
 
+    def test_faults_say_why(self):
+        for line, words in (
+                ("admit 256", "256 is above 255"), ("raw 1 2 300", "300 is above 255"), ("die " + "9" * 5000, "is above 255"),
+                ("Steal 1 from 0", "words are lower case"), ("steal 1 FROM 0", "words are lower case"), ("steal 1 0", "steal N from N"),
+                ("admit -1", "admit N, and N is 0 to 255"), ("raw 1 2 3 4", "raw N N N"), ("stael 1 from 0", "'stael' is none of admit, steal")):
+            with self.assertRaises(desk.Stop) as found:
+                events.make(line)
+            self.assertIn("line 1: ", str(found.exception))
+            self.assertIn(words, str(found.exception))
+        self.assertEqual(events.make("admit " + "0" * 5000 + "7"), bytes([1, 7, 0]))
+
+    def test_faults_are_in_the_order_of_lines(self):
+        self.file("events.bin", b"old")
+        done = tool("events.py", "make", self.file("e.txt", "admit\nraw 1\n\nraw 256\nraw 1 2\nsteal\n"), self.folder / "events.bin")
+        self.assert_lines(done, "line 1", "line 2", "line 4", "line 5", "line 6", str(self.folder))
+        self.assert_message(done, "events.bin is not written; the old one is left as it was")
+
     def test_commands(self):
         path = self.file("e.txt", LISTING_EVENTS)
         self.assertEqual(tool("events.py", "make", path, self.folder / "events.bin").returncode, 0)
@@ -302,6 +383,18 @@ class Model(Folder):
         for crate in ("rakhvide", "sample_close"):
             done = tool("model.py", CRATES / crate / "data")
             self.assertEqual(done.stdout, (CRATES / crate / "stdout").read_bytes())
+
+    def test_decimal(self):
+        self.file("book.bin", book.make(LISTING_BOOK))
+        self.file("events.bin", events.make(LISTING_EVENTS))
+        shown = tool("model.py", self.folder, "--decimal").stdout.decode()
+        self.assertEqual(shown, LISTING_PAGE.replace("405A000000000000 ", "405A000000000000 104.0 "))
+        data = CRATES / "sample_close" / "data"
+        lines = [line.split() for line in tool("model.py", "--decimal", data).stdout.decode().splitlines()]
+        priced = [words for words in lines if words[1] == "priced"]
+        self.assertTrue(priced)
+        for _, _, bits, decimal, *_ in priced:
+            self.assertEqual(struct.pack(">d", float(decimal)).hex().upper(), bits)
 
     def test_prices(self):
         for terms, price in (((book.FIXED, 2, 0, 4.0, 0.0), 104), ((book.ZERO, 2, 0, 0.0, 0.5), 64), ((book.FIXED, 1, 0, 10.0, 0.5), 84)):
@@ -455,6 +548,47 @@ class Picture(Folder):
         self.assertEqual((done.returncode, done.stderr), (0, b""))
         self.assertIn("A & <b>", "".join(xml.etree.ElementTree.parse(self.folder / "out.svg").getroot().itertext()))
 
+    def test_titles_that_are_no_xml(self):
+        self.file("book.bin", book.make(LISTING_BOOK))
+        for title in ("a\udcffb", "a\x01b", "\x1b[1m", "\ufffe"):
+            done = tool("picture.py", self.folder, self.folder / "out.svg", "--title", title)
+            self.assert_lines(done, "the title has the character")
+            self.assertFalse((self.folder / "out.svg").exists())
+
+    def test_long_titles(self):
+        data = book.make(LISTING_BOOK)
+        for title in ("A long title of a run " * 9, "\u503a" * 80, "i" * 100000):
+            tree = xml.etree.ElementTree.fromstring(picture.picture(data, b"", title))
+            shown = next(tree.iter("{http://www.w3.org/2000/svg}text"))
+            self.assertTrue(shown.text.endswith("\u2026") and title.startswith(shown.text[:-1]))
+            self.assertLess(float(shown.get("x")) + svg.width_of(shown.text, svg.BOLD * 21), float(tree.get("width")) - 20)
+            self.assertGreater(len(shown.text), 30)
+            self.assertEqual(tree[0].text, title)
+
+    def test_long_rates(self):
+        """Terms and states are whole, and none covers another or leaves the picture."""
+        terms = [(book.FIXED, 240, 0, 100 / 3, 1 / 3), (book.FIXED, 240, 0, 2.2250738585072014e-308, 1.2345678901234568e-300),
+                 (book.FIXED, 240, 0, 100.0, 0.0), (book.ZERO, 1, 0, 0.0, 0.5)]
+        names = [b"ZZ%09d" % i for i in range(len(terms))]
+        bonds = [book.Entry(name + b"%d" % book.check_digit(name), *term) for name, term in zip(names, terms)]
+        found = "".join(f"admit {i}\nstart 0 job {i}\ndone 0\ndeliver 0 to 0\n" for i in range(len(terms)))
+        tree = xml.etree.ElementTree.fromstring(picture.picture(book.book_of(2, bonds), events.make(found)))
+        texts = {node.text: node for node in tree.iter("{http://www.w3.org/2000/svg}text")}
+        self.assertIn(f"coupon {100 / 3!r}, 240 half-years at {1 / 3!r}", texts)
+        self.assertIn("coupon 2.2250738585072014e-308, 240 half-years at 1.2345678901234568e-300", texts)
+        end = {words: float(node.get("x")) + svg.width_of(words, float(node.get("font-size"))) for words, node in texts.items() if words}
+        terms_at = {float(node.get("x")) for words, node in texts.items() if words and "half-years at" in words}
+        self.assertLess(end["priced 12100.000000, replica 1"], min(terms_at))
+        self.assertLess(max(place for words, place in end.items() if "half-years at" in words), float(tree.get("width")) - picture.MARGIN)
+
+    def test_a_picture_too_high_is_told(self):
+        self.file("book.bin", book.make(LISTING_BOOK))
+        for count, told in ((1500, False), (2000, True)):
+            self.file("events.bin", bytes(3 * count))
+            done = tool("picture.py", self.folder, self.folder / "out.svg")
+            self.assertEqual((done.returncode, b"32767" in done.stderr), (0, told))
+            self.assertTrue((self.folder / "out.svg").exists())
+
     def test_refused_book(self):
         self.file("book.bin", b"\x02\0\x01\0")
         self.assert_message(tool("picture.py", self.folder, self.folder / "out.svg"), "book refused 3")
@@ -472,6 +606,46 @@ class Damage(Folder):
             self.assert_message(tool(*command))
         (self.folder / "book.bin").write_bytes(book.make(LISTING_BOOK))
         self.assert_message(tool("picture.py", self.folder, none / "p.svg"), "cannot be written")
+
+    def test_an_input_is_not_written_over(self):
+        data, rows, lines = self.file("book.bin", book.make(LISTING_BOOK)), self.file("b.csv", LISTING_BOOK), self.file("e.txt", LISTING_EVENTS)
+        (self.folder / "soft.svg").symlink_to(data)
+        os.link(rows, self.folder / "hard.csv")
+        before = {path: path.read_bytes() for path in (data, rows, lines)}
+        for command in (["book.py", "make", rows, rows], ["book.py", "make", rows, self.folder / "hard.csv"], ["events.py", "make", lines, lines],
+                        ["events.py", "make", lines, f"{self.folder}/./e.txt"], ["picture.py", self.folder, data],
+                        ["picture.py", self.folder, self.folder / "soft.svg"], ["picture.py", self.folder, self.folder / "events.bin"]):
+            self.assert_message(tool(*command), "same file as the input")
+            self.assertEqual({path: path.read_bytes() for path in before}, before)
+        self.assertFalse((self.folder / "events.bin").exists())
+
+    def printing(self):
+        """Commands that print: one line, and more than is kept back until the end."""
+        self.file("book.bin", book.make(LISTING_BOOK))
+        self.file("events.bin", bytes(60000))
+        few, rows = self.file("few.bin", bytes(3)), self.file("b.csv", HEADER + GOOD)
+        return (["book.py", "show", self.folder / "book.bin"], ["events.py", "show", few], ["events.py", "show", self.folder / "events.bin"],
+                ["model.py", self.folder], ["model.py", CRATES / "rakhvide" / "data"], ["book.py", "make", rows, self.folder / "new.bin"])
+
+    def assert_output_fails(self, command, **how):
+        done = tool(*command, **how)
+        self.assertEqual(done.returncode, 1)
+        making = ["/"] if "make" in command else []  # that nothing is written
+        self.assert_lines(done, "standard output cannot be written", *making)
+        self.assertFalse((self.folder / "new.bin").exists())
+
+    @unittest.skipUnless(os.path.exists("/dev/full"), "a device of Linux")
+    def test_output_that_is_full(self):
+        for command in [*self.printing(), ["model.py", "--help"]]:
+            with open("/dev/full", "wb") as full:
+                self.assert_output_fails(command, output=full)
+
+    def test_output_that_is_closed(self):
+        for command in self.printing():
+            self.assert_output_fails(command, output=None, before=lambda: os.close(1))
+        rows = self.file("b.csv", LISTING_BOOK)
+        done = tool("book.py", "make", rows, self.folder / "new.bin", output=None, before=lambda: os.close(1))  # prints nothing
+        self.assertEqual((done.returncode, done.stderr), (0, b""))
 
     def test_noise(self):
         """Any bytes are read or refused in words."""
