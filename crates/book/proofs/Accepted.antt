@@ -17,11 +17,11 @@ use Rattle.lists.proofs.Count.{least-at, least-before}
 use Rattle.isin.specs.Isin.{verdictOf}
 use Rattle.pricer.specs.Range.{inRange}
 use Rattle.pricer.specs.declared.Bond.{Bond}
-use Rattle.term.specs.Term.{termOf}
+use Rattle.term.specs.Term.{termOf, termNumber}
 use Rattle.term.proofs.Ranged.{read-in-range}
 use Rattle.term.specs.declared.Reading.{Reading}
 use Rattle.term.specs.declared.Reading.the-variants.{Faulty, Valid}
-use Rattle.book.specs.Book.{machinesOf, entriesOf, sizesInRange, identifierAt, termAt, same, repeated, termFault, faultAt, lowestFaulty, lowestFault, bookVerdict}
+use Rattle.book.specs.Book.{machinesOf, entriesOf, sizesInRange, identifierAt, termAt, same, repeated, faultAt, lowestFaulty, lowestFault, bookVerdict}
 use Rattle.book.specs.Parts.{IsSize, sizeAt, entryCount, identifierOf, noBond, bondIn, bondAt, bondOf}
 use Rattle.book.proofs.Rests.{same-itself}
 use Rattle.book.proofs.Faults.{isFaulty, differs}
@@ -96,7 +96,7 @@ pub record Entry (s : List ℕ) (n i : ℕ) : Type 0 where
   pub in-range : inRange (bondAt s n i) ≡ true
 
 -- what reads to no fault is the bond of the entry
-valid : (r : Reading) → termFault r ≡ 0 → r ≡ Valid (bondIn r)
+valid : (r : Reading) → termNumber r ≡ 0 → r ≡ Valid (bondIn r)
 valid Faulty e = absurd (no 6 e)
 valid (Valid b) e = refl
 
@@ -105,7 +105,7 @@ unfolding faultAt repeated bondAt
 entry-of s n i e =
     let v = verdictOf (identifierAt s i) in
     let a : eqb v 0 ≡ true = byBool (eqb v 0) (λ b. b) (λ b. let z : v ≡ 0 = rw b at e in absurd (eqb-false v 0 b z)) in
-    let f : cond (not (all (differs s i) i)) 6 (termFault (termOf (termAt s n i))) ≡ 0 = rw a at e in
+    let f : cond (not (all (differs s i) i)) 6 (termNumber (termOf (termAt s n i))) ≡ 0 = rw a at e in
     let g = past (not (all (differs s i) i)) 5 _ f in
     let r : termOf (termAt s n i) ≡ Valid (bondIn (termOf (termAt s n i))) = valid (termOf (termAt s n i)) (g .1) in
     record {

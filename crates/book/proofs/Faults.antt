@@ -11,8 +11,8 @@ use lib.ListN.{take, drop}
 use Rattle.lists.specs.Scan.{all, least}
 use Rattle.lists.proofs.Scans.{all-fail, least-found}
 use Rattle.isin.specs.Isin.{verdictOf}
-use Rattle.term.specs.Term.{termOf}
-use Rattle.book.specs.Book.{identifierAt, termAt, same, repeated, termFault, faultAt, lowestFaulty, lowestFault}
+use Rattle.term.specs.Term.{termOf, termNumber}
+use Rattle.book.specs.Book.{identifierAt, termAt, same, repeated, faultAt, lowestFaulty, lowestFault}
 
 -- ---- the parts
 
@@ -65,7 +65,7 @@ module _ (s : List ℕ) (n i : ℕ) where
   unfolding faultAt
   by-earlier h k = rw (eq-eqb (verdictOf (identifierAt s i)) 0 h, k)
 
-  pub by-term : verdictOf (identifierAt s i) ≡ 0 → repeated s i ≡ false → faultAt s n i ≡ termFault (termOf (termAt s n i))
+  pub by-term : verdictOf (identifierAt s i) ≡ 0 → repeated s i ≡ false → faultAt s n i ≡ termNumber (termOf (termAt s n i))
   unfolding faultAt
   by-term h k = rw (eq-eqb (verdictOf (identifierAt s i)) 0 h, k)
 

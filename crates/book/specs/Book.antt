@@ -7,9 +7,7 @@ use lib.ListN.{length, take, drop}
 use Rattle.lists.specs.Scan.{all, least}
 use Rattle.endian.specs.Endian.{le16}
 use Rattle.isin.specs.Isin.{verdictOf}
-use Rattle.term.specs.Term.{termOf}
-use Rattle.term.specs.declared.Reading.{Reading}
-use Rattle.term.specs.declared.Reading.the-variants.{Faulty, Valid}
+use Rattle.term.specs.Term.{termOf, termNumber}
 
 -- "Bytes 0 and 1: machine count, 2 to 16. Bytes 2 and 3: entry count n, 0 to 64. Both are little-endian."
 abbrev pub machinesOf : List ℕ → ℕ
@@ -40,17 +38,12 @@ same (a ∷ xs) (b ∷ ys) = eqb a b && same xs ys
 unfoldable pub repeated : List ℕ → ℕ → Bool
 repeated s i = not (all (λ k. not (same (identifierAt s k) (identifierAt s i))) i)
 
--- 7: "term outside the rules"
-abbrev pub termFault : Reading → ℕ
-termFault Faulty = 7
-termFault (Valid b) = 0
-
--- the fault of entry i of n, 4 "identifier form" and 5 "check digit" first, or 0
+-- the fault of entry i of n: 4 "identifier form" and 5 "check digit" first, then 6, then 7 "term outside the rules"; or 0
 unfoldable pub faultAt : List ℕ → ℕ → ℕ → ℕ
 faultAt s n i =
     cond (not (eqb (verdictOf (identifierAt s i)) 0)) (verdictOf (identifierAt s i))
     (cond (repeated s i) 6
-    (termFault (termOf (termAt s n i))))
+    (termNumber (termOf (termAt s n i))))
 
 -- the "Lowest faulty entry" of n, or n where none is faulty
 unfoldable pub lowestFaulty : List ℕ → ℕ → ℕ

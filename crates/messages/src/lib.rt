@@ -1,5 +1,5 @@
 // Messages in flight: sending one, finding the oldest of a channel, taking one off, dropping some.
-// Each equals the definition of the same name in the crate `table`.
+// Each public function equals the definition of its name in the crate `table`; `drop_to` and `drop_from` equal its `sift`.
 ghost use mathlib.Core.Path.{_≡_};
 ghost use Prim.Native.Nat.{_<_, _≤_};
 ghost use Rattle.table.specs.Messages.{chan, send, oldest, pull, sift, notTo, notFrom};

@@ -7,10 +7,10 @@ use native.Mathlib.Omega.{arith}
 use lib.Dec.{eqb, ltb}
 use lib.ListN.{length}
 use Rattle.isin.specs.Isin.{formed, total, verdictOf}
-use Rattle.term.specs.Term.{termOf}
+use Rattle.term.specs.Term.{termOf, termNumber}
 use Rattle.term.specs.declared.Reading.{Reading}
 use Rattle.term.specs.declared.Reading.the-variants.{Faulty, Valid}
-use Rattle.book.specs.Book.{machinesOf, entriesOf, sizesInRange, identifierAt, termAt, repeated, termFault, faultAt, lowestFaulty, lowestFault, bookVerdict}
+use Rattle.book.specs.Book.{machinesOf, entriesOf, sizesInRange, identifierAt, termAt, repeated, faultAt, lowestFaulty, lowestFault, bookVerdict}
 use Rattle.table.proofs.Views.{Sized}
 use Rattle.validity.specs.Validity.{tableOk}
 use Rattle.opening.specs.Opening.{openOf}
@@ -27,7 +27,7 @@ identifier-small : (s : List ℕ) → verdictOf s ≤ 7
 unfolding verdictOf
 identifier-small s = either (not (formed s)) 4 _ (omega arith) (either (eqb (total s % 10) 0) 0 5 (omega arith) (omega arith))
 
-term-small : (r : Reading) → termFault r ≤ 7
+term-small : (r : Reading) → termNumber r ≤ 7
 term-small Faulty = omega arith
 term-small (Valid b) = omega arith
 
@@ -35,7 +35,7 @@ fault-small : (s : List ℕ) (n i : ℕ) → faultAt s n i ≤ 7
 unfolding faultAt
 fault-small s n i =
     either (not (eqb (verdictOf (identifierAt s i)) 0)) (verdictOf (identifierAt s i)) _ (identifier-small (identifierAt s i))
-    (either (repeated s i) 6 (termFault (termOf (termAt s n i))) (omega arith) (term-small (termOf (termAt s n i))))
+    (either (repeated s i) 6 (termNumber (termOf (termAt s n i))) (omega arith) (term-small (termOf (termAt s n i))))
 
 lowest-small : (s : List ℕ) (n : ℕ) → lowestFault s n ≤ 7
 unfolding lowestFault

@@ -1,5 +1,5 @@
 // A machine's pool: a copy enters, the lowest job, the reserved copy returns, the pool is cleared; a job opened on the root; what a machine was told.
-// Each equals the definition of the same name in the crate `table`.
+// Each public function equals the definition of its name in the crate `table`; `open_on_root` equals its `enter` after `withJob`.
 ghost use mathlib.Core.Path.{_≡_};
 ghost use Prim.Native.Nat.{_<_, max};
 ghost use Rattle.table.specs.Views.{nodeAt, toldAt, withJob, enter};

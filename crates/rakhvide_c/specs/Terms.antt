@@ -4,11 +4,6 @@ use Rattle.pricer.specs.Price.{priceBits}
 use Rattle.term.specs.declared.Reading.{Reading}
 use Rattle.term.specs.declared.Reading.the-variants.{Faulty, Valid}
 
--- "7 | term outside the rules"
-unfoldable pub termNumber : Reading → ℕ
-termNumber Faulty = 7
-termNumber (Valid b) = 0
-
 -- the price of the term's bond; a term outside the rules leaves the number x that was there
 unfoldable pub termBits : Reading → ℕ → ℕ
 termBits Faulty x = x

@@ -4,12 +4,12 @@ ghost use mathlib.Core.Path.{_≡_};
 ghost use lib.Ieee.{binary64, toBits};
 ghost use Rattle.isin.specs.Isin.{verdictOf};
 ghost use Rattle.pricer.specs.Price.{zeroPrice, fixedPrice};
-ghost use Rattle.term.specs.Term.{termOf};
+ghost use Rattle.term.specs.Term.{termOf, termNumber};
 ghost use Rattle.book.specs.Book.{bookVerdict};
 ghost use Rattle.page.specs.Page.{eventsOf, printedOf, bufferOf};
 ghost use Rattle.claims.specs.Claims.{Demand3};
 ghost use Rattle.kept.specs.Kept.{checkOf, stepNumber, stepBytes, openNumber, openBytes};
-ghost use Rattle.rakhvide_c.specs.Terms.{termNumber, termBits};
+ghost use Rattle.rakhvide_c.specs.Terms.{termBits};
 use pricer::FixedBond;
 use term::Reading;
 

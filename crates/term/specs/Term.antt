@@ -35,3 +35,8 @@ termOf s =
     cond (eqb (length s) 19)
     (cond (eqb (getD s 2 0) 0) (termFrom (getD s 0 0) (getD s 1 0) (le64 s 3) (le64 s 11)) Faulty)
     Faulty
+
+-- the number of each case, "Where each refusal is checked": 7 "term outside the rules", or 0
+abbrev pub termNumber : Reading → ℕ
+termNumber Faulty = 7
+termNumber (Valid b) = 0

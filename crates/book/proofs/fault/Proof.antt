@@ -2,8 +2,8 @@
 use mathlib.Core.Path.{_≡_, sym, ap, _∙_}
 use denote.Ref.{now}
 use Rattle.isin.specs.Isin.{verdictOf}
-use Rattle.term.specs.Term.{termOf}
-use Rattle.book.specs.Book.{identifierAt, termFault, faultAt}
+use Rattle.term.specs.Term.{termOf, termNumber}
+use Rattle.book.specs.Book.{identifierAt, faultAt}
 use Rattle.book.proofs.Faults.{is-identifier, is-term, by-identifier, by-earlier, by-term}
 use borrow.Author.Needs.{needs}
 use Rattle.book.proofs.fault.Statement.{statement}
@@ -17,10 +17,10 @@ passed : (c : tie.Else1) → let a = c .before .before .before .before .args in 
 passed c = sym (verdict-is (c .before)) ∙ c .if1 .left
 
 -- past both tests the fault is that of the term
-term-is : (c : tie.After-read) → let a = c .before .before .before .before .before .before .before .before .args in faultAt (now (a .s)) (a .n) (a .i) ≡ termFault (c .read .result)
+term-is : (c : tie.After-read) → let a = c .before .before .before .before .before .before .before .before .args in faultAt (now (a .s)) (a .n) (a .i) ≡ termNumber (c .read .result)
 term-is c =
     let l = c .before .before in
-    by-term _ _ _ (passed (l .before .before)) (sym (l .before .seen-before .ensures) ∙ l .if2 .left) ∙ ap termFault (sym (c .read .ensures ∙ ap termOf (is-term _ _ _)))
+    by-term _ _ _ (passed (l .before .before)) (sym (l .before .seen-before .ensures) ∙ l .if2 .left) ∙ ap termNumber (sym (c .read .ensures ∙ ap termOf (is-term _ _ _)))
 
 mul-a : tie.Need-mul-a
 mul-a c = search needs
@@ -86,10 +86,10 @@ enum-told-2 : tie.Need-enum-told-2
 enum-told-2 c = search needs
 
 returns-3 : tie.Need-returns-3
-returns-3 c = sym (term-is (c .before .before) ∙ ap termFault (c .enum-told .given .1))
+returns-3 c = sym (term-is (c .before .before) ∙ ap termNumber (c .enum-told .given .1))
 
 returns-4 : tie.Need-returns-4
-returns-4 c = sym (term-is (c .before .before) ∙ ap termFault (c .enum-told2 .given .1))
+returns-4 c = sym (term-is (c .before .before) ∙ ap termNumber (c .enum-told2 .given .1))
 
 pub fault-spec : {M : Type 1} → statement M
 fault-spec =

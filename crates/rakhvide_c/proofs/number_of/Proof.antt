@@ -1,6 +1,5 @@
 -- `rakhvide_c::number_of` meets its contract: by the case of what was read. Assumes nothing.
 use borrow.Author.Needs.{needs}
-use Rattle.rakhvide_c.specs.Terms.{termNumber}
 use Rattle.rakhvide_c.proofs.number_of.Statement.{statement}
 use Rattle.rakhvide_c.proofs.number_of.Tie as tie
 
@@ -11,11 +10,9 @@ enum-told-2 : tie.Need-enum-told-2
 enum-told-2 c = search needs
 
 returns : tie.Need-returns
-unfolding termNumber
 returns c = cc
 
 returns-2 : tie.Need-returns-2
-unfolding termNumber
 returns-2 c = cc
 
 pub number-of-spec : {M : Type 1} → statement M
