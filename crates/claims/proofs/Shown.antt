@@ -6,7 +6,7 @@ use mathlib.Core.Path.{_≡_, refl, sym, ap, _∙_}
 use mathlib.Core.List.{List}
 use native.Mathlib.Omega.{arith}
 use lib.ListN.{getD}
-use Rattle.lists.proofs.Scans.{list-at}
+use Rattle.lists.proofs.Scans.{tabulate-at}
 use Rattle.pricer.specs.Price.{priceBits}
 use Rattle.book.specs.Parts.{entryCount, bondOf}
 use Rattle.table.specs.declared.Job.{Job}
@@ -42,7 +42,7 @@ bond-run t es j = by-run (λ u. bondAt u j ≡ bondAt t j) (fixed-kept (λ u. bo
 
 serial-at : (book : List ℕ) (j : ℕ) → j < entryCount book → getD (serialOf book) j 0 ≡ priceBits (bondOf book j)
 unfolding serialOf
-serial-at book j l = list-at (λ i. priceBits (bondOf book i)) 0 0 (entryCount book) j 0 l
+serial-at book j l = tabulate-at (λ i. priceBits (bondOf book i)) 0 0 (entryCount book) j 0 l
 
 -- ---- the job
 

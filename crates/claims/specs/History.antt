@@ -4,7 +4,7 @@ use Prim.Native.Nat.{ℕ, zero, suc, _+_}
 use mathlib.Core.Bool.{Bool, true, cond, _&&_, _||_}
 use mathlib.Core.List.{List, [], _∷_}
 use lib.Dec.{eqb}
-use Rattle.lists.specs.Scan.{listOf}
+use Rattle.lists.specs.Scan.{tabulate}
 use Rattle.pricer.specs.Price.{priceBits}
 use Rattle.book.specs.Parts.{entryCount, bondOf}
 use Rattle.table.specs.declared.Message.{Message}
@@ -65,7 +65,7 @@ stateAfter n (p ∷ ps) = 2
 -- "One machine, bond after bond, is fed the book alone. It goes through the entries from the first to the last and gives each the formula's price of
 -- its terms. It knows no table, event or message. Prices are compared as their 64 bits."
 unfoldable pub serialOf : List ℕ → List ℕ
-serialOf book = listOf (λ i. priceBits (bondOf book i)) (entryCount book)
+serialOf book = tabulate (λ i. priceBits (bondOf book i)) (entryCount book)
 
 -- neither an admission (1), nor a steal (2), nor a death (6)
 abbrev pub isFurther : ℕ → Bool

@@ -6,7 +6,7 @@ use mathlib.Core.Path.{_≡_, refl}
 use mathlib.Core.Bool.{true}
 use mathlib.Core.List.{List, [], _∷_}
 use lib.Ieee.{ofBits, toBits, add, div, le}
-use Rattle.lists.specs.Scan.{all, least, keep, padTo, without, upTo, listOf, countTo}
+use Rattle.lists.specs.Scan.{all, least, filter, padTo, without, upTo, tabulate, countTo}
 use Rattle.isin.specs.Isin.{allIn, formed, expanded, twice, added, total, verdictOf}
 use Rattle.pricer.specs.Price.{zeroAfter, fixedAfter, priceOf, priceBits}
 use Rattle.pricer.specs.Range.{inRange}
@@ -47,7 +47,7 @@ unfolding leafParts inRange checked termFrom termOf sizesInRange identifierAt te
 bookParts = 0
 
 unfoldable freshParts : ℕ
-unfolding bookParts sizeAt bondAt bondOf padTo listOf blank bondsOf nodesOf freshOf openOf
+unfolding bookParts sizeAt bondAt bondOf padTo tabulate blank bondsOf nodesOf freshOf openOf
 freshParts = 0
 
 unfoldable handlerParts : ℕ
@@ -55,7 +55,7 @@ unfolding push pull sift send oldest lowest wipe copyIs reserves returned messag
 handlerParts = 0
 
 unfoldable eventParts : ℕ
-unfolding handlerParts keep without upTo countTo parts enter pieces admitted admitOf stolen stealOf delivered deliverOf started startOf finished doneOf died dieOf informed unwaited reclaimed quieted reissueOne reissue noticed noticeOf eventFormed numbered eventOf answerOf
+unfolding handlerParts filter without upTo countTo parts enter pieces admitted admitOf stolen stealOf delivered deliverOf started startOf finished doneOf died dieOf informed unwaited reclaimed quieted reissueOne reissue noticed noticeOf eventFormed numbered eventOf answerOf
 eventParts = 0
 
 -- ---- a run without check 9

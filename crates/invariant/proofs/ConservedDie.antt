@@ -8,7 +8,7 @@ use native.Mathlib.Omega.{arith}
 use lib.Dec.{eqb}
 use borrow.Author.Tests.{ne-eqb, eqb-true}
 use Rattle.lists.proofs.Cases.{byBool, and-left, and-right}
-use Rattle.lists.proofs.Count.{ind, count, count-keep, every-map}
+use Rattle.lists.proofs.Count.{ind, count, count-filter, every-map}
 use Rattle.table.specs.declared.Machine.{Machine}
 use Rattle.table.specs.declared.Message.{Message}
 use Rattle.table.specs.declared.Table.{Table}
@@ -42,7 +42,7 @@ module _ (t : Table) (a : ℕ) (w : Whole t) (al : a < 16) (nz : a ≢ 0) where
       let e : m ≢ a = alive-not m alive in
       let same : nodeAt (died t a) m ≡ nodeAt t m = node-died-other t a m e in
       ap (count (about m th j q)) (flight-died t a)
-      ∙ count-keep (about m th j q) (notTo a) (flight t)
+      ∙ count-filter (about m th j q) (notTo a) (flight t)
       (every-map (MessageFacts t) (λ x. about m th j q x ≡ true → notTo a x ≡ true) (flight t)
       (λ x f. about-kept m th j q a x nz e (λ k. f .root (rw k))) (w .facts .message))
       ∙ w .conserved m th j q ml tl (sym (ap (λ (n : Machine). n .alive) same) ∙ alive) (sym (told-died t a m th) ∙ told)

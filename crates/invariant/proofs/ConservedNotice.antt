@@ -8,9 +8,9 @@ use Prim.Native.Nat.{ℕ, _+_, _<_}
 use native.Mathlib.Omega.{arith}
 use lib.Dec.{eqb}
 use borrow.Author.Tests.{ne-eqb, eqb-true}
-use Rattle.lists.specs.Scan.{keep}
+use Rattle.lists.specs.Scan.{filter}
 use Rattle.lists.proofs.Cases.{byBool, byEq, byAnd, and-left}
-use Rattle.lists.proofs.Count.{ind, count, count-keep, Every, every-map}
+use Rattle.lists.proofs.Count.{ind, count, count-filter, Every, every-map}
 use Rattle.table.specs.declared.Machine.{Machine}
 use Rattle.table.specs.declared.Message.{Message}
 use Rattle.table.specs.declared.Table.{Table}
@@ -81,9 +81,9 @@ pub not-from : (a b : ℕ) (x : Message) → (x .from ≡ b → ⊥) → notFrom
 not-from a b x n = rw (ne-eqb (x .from) b n)
 
 -- those about a living machine's copy are not from b: a REQ is from the machine, an answer from the root
-about-stays : (t : Table) (l : List Message) (a b m th j q : ℕ) → b ≢ 0 → m ≢ b → Every (Sender t) l → count (about m th j q) (keep (notFrom b a) l) ≡ count (about m th j q) l
+about-stays : (t : Table) (l : List Message) (a b m th j q : ℕ) → b ≢ 0 → m ≢ b → Every (Sender t) l → count (about m th j q) (filter (notFrom b a) l) ≡ count (about m th j q) l
 about-stays t l a b m th j q nz nm h =
-    count-keep (about m th j q) (notFrom b a) l
+    count-filter (about m th j q) (notFrom b a) l
     (every-map (Sender t) (λ x. about m th j q x ≡ true → notFrom b a x ≡ true) l
     (λ x f e. not-from a b x (λ d. nz (sym d ∙ f .root (about-from m th j q x e (λ g. nm (sym g ∙ d))))))
     h)
@@ -94,9 +94,9 @@ module _ (t : Table) (a b : ℕ) (w : Whole t) (al : a < 16) (bl : b < 16) (gone
   not-root : b ≢ 0
   not-root e = gone (ap (λ (k : ℕ). nodeAt t k .alive) e ∙ w .facts .root)
 
-  conserved-quieted : Conserved (quieted t a b) (keep (notFrom b a) (flight t))
+  conserved-quieted : Conserved (quieted t a b) (filter (notFrom b a) (flight t))
   conserved-quieted m th j q ml tl alive told =
-      let old : nodeAt t m .alive ≡ 1 → toldAt t m th ≡ 0 → count (about m th j q) (keep (notFrom b a) (flight t)) ≡ ind (reserves (nodeAt t m) j q th) = λ v o.
+      let old : nodeAt t m .alive ≡ 1 → toldAt t m th ≡ 0 → count (about m th j q) (filter (notFrom b a) (flight t)) ≡ ind (reserves (nodeAt t m) j q th) = λ v o.
       about-stays t (flight t) a b m th j q not-root (λ d. gone (rw (← d) v)) (w .side .sender) ∙ w .conserved m th j q ml tl v o in
       byEq m a
       (λ e.

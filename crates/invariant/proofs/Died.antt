@@ -3,7 +3,7 @@
 use mathlib.Core.Path.{_≡_, _∙_}
 use mathlib.Core.Logic.{_≢_}
 use Prim.Native.Nat.{ℕ, _<_}
-use Rattle.lists.specs.Scan.{keep}
+use Rattle.lists.specs.Scan.{filter}
 use Rattle.table.specs.declared.Table.{Table}
 use Rattle.table.specs.Views.{noMachine, jobAt, nodeAt, poolAt, toldAt, flight, withNode}
 use Rattle.table.specs.Messages.{sift, notTo, wipe}
@@ -21,7 +21,7 @@ module _ (t : Table) (a : ℕ) where
   unfolding died sift
   told-died m d = simp (views, told-wipe)
 
-  pub flight-died : flight (died t a) ≡ keep (notTo a) (flight t)
+  pub flight-died : flight (died t a) ≡ filter (notTo a) (flight t)
   unfolding died
   flight-died = flight-sift _ (notTo a) ∙ simp (views, flight-wipe)
 

@@ -6,9 +6,9 @@ use Prim.Native.Nat.{ℕ, _+_, _<_}
 use native.Mathlib.Omega.{arith}
 use lib.Dec.{eqb}
 use Rattle.pricer.specs.Price.{priceBits}
-use Rattle.lists.specs.Scan.{keep}
+use Rattle.lists.specs.Scan.{filter}
 use Rattle.lists.proofs.Cases.{byBool}
-use Rattle.lists.proofs.Count.{Every, every-map, every-keep}
+use Rattle.lists.proofs.Count.{Every, every-map, every-filter}
 use Rattle.table.specs.declared.Job.{Job}
 use Rattle.table.specs.declared.Machine.{Machine}
 use Rattle.table.specs.declared.Message.{Message}
@@ -97,8 +97,8 @@ module _ (t : Table) (w : Whole t) where
   prices-finished a l room = prices-by t (finished t a) _ (λ j. fixed-finished (λ u. bondAt u j) (fixed-bond j) t a) (right-finished a l room)
 
   -- some of the messages are dropped
-  fewer : (q : Message → Bool) → Every (RightPrice t) (keep q (flight t))
-  fewer q = every-map (λ x. RightPrice t x × (q x ≡ true)) (RightPrice t) (keep q (flight t)) (λ x e. e .0) (every-keep (RightPrice t) q (flight t) (p .sent))
+  fewer : (q : Message → Bool) → Every (RightPrice t) (filter q (flight t))
+  fewer q = every-map (λ x. RightPrice t x × (q x ≡ true)) (RightPrice t) (filter q (flight t)) (λ x e. e .0) (every-filter (RightPrice t) q (flight t) (p .sent))
 
   pub prices-died : (a : ℕ) → Prices (died t a) (flight (died t a))
   prices-died a =

@@ -5,7 +5,7 @@ use mathlib.Core.Logic.{_≢_}
 use mathlib.Core.Bool.{not, cond, _&&_}
 use Prim.Native.Nat.{ℕ, _+_, _<_}
 use lib.Dec.{eqb}
-use Rattle.lists.specs.Scan.{keep}
+use Rattle.lists.specs.Scan.{filter}
 use Rattle.lists.proofs.Cases.{byBool}
 use Rattle.table.specs.declared.Machine.{Machine}
 use Rattle.table.specs.declared.Table.{Table}
@@ -64,7 +64,7 @@ module _ (t : Table) (a b : ℕ) where
       same-unwaited (reclaimed (informed t a b) a b) a b f (q (reclaimed (informed t a b) a b) _)
       ∙ same-reclaimed (informed t a b) a b f (p (informed t a b))
 
-  pub flight-quieted : flight (quieted t a b) ≡ keep (notFrom b a) (flight t)
+  pub flight-quieted : flight (quieted t a b) ≡ filter (notFrom b a) (flight t)
   unfolding informed returned enter
   flight-quieted = same-quieted flight (λ u. simp views) (λ u v. simp views) ∙ flight-told (sift t (notFrom b a)) a b 1 ∙ flight-sift t (notFrom b a)
 

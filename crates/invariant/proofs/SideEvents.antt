@@ -7,8 +7,8 @@ use mathlib.Core.List.{List, _∷_}
 use Prim.Native.Nat.{ℕ, _+_, _<_}
 use native.Mathlib.Omega.{arith}
 use Rattle.pricer.specs.Price.{priceBits}
-use Rattle.lists.specs.Scan.{keep}
-use Rattle.lists.proofs.Count.{Every, every-map, every-keep}
+use Rattle.lists.specs.Scan.{filter}
+use Rattle.lists.proofs.Count.{Every, every-map, every-filter}
 use Rattle.table.specs.declared.Machine.{Machine}
 use Rattle.table.specs.declared.Message.{Message}
 use Rattle.table.specs.declared.Table.{Table}
@@ -76,8 +76,8 @@ module _ (t : Table) (w : Whole t) where
 
   pub side-died : (a : ℕ) → a < 16 → Side (died t a) (flight (died t a))
   side-died a al =
-      let k = keep (notTo a) (flight t) in
-      let f : Every (Sender t) k = every-map (λ x. Sender t x × (notTo a x ≡ true)) (Sender t) k (λ x e. e .0) (every-keep (Sender t) (notTo a) (flight t) (w .side .sender)) in
+      let k = filter (notTo a) (flight t) in
+      let f : Every (Sender t) k = every-map (λ x. Sender t x × (notTo a x ≡ true)) (Sender t) k (λ x e. e .0) (every-filter (Sender t) (notTo a) (flight t) (w .side .sender)) in
       rw (flight-died t a) (side-node t (died t a) (flight t) k a noMachine (told-died t a) (job-died t a) (node-died t a (w .sized) al) (node-died-other t a) (copies-none t a) f (w .side))
 
   placed-opened : (r : ℕ) → Placed t (opened r)

@@ -9,9 +9,9 @@ use Prim.Native.Nat.{ℕ, _+_, _≤_, _<_}
 use native.Mathlib.Omega.{arith}
 use lib.Dec.{eqb, ltb}
 use borrow.Author.Tests.{eq-eqb, ne-eqb, eqb-false, ltb-true, ltb-false}
-use Rattle.lists.specs.Scan.{keep}
+use Rattle.lists.specs.Scan.{filter}
 use Rattle.lists.proofs.Cases.{byBool, byEq, byAnd}
-use Rattle.lists.proofs.Count.{Every, every-map, every-keep, every-zip}
+use Rattle.lists.proofs.Count.{Every, every-map, every-filter, every-zip}
 use Rattle.table.specs.declared.Job.{Job}
 use Rattle.table.specs.declared.Machine.{Machine}
 use Rattle.table.specs.declared.Message.{Message}
@@ -48,7 +48,7 @@ reissued-grows v b = byBool (lost v b) (λ e. rw e (omega arith)) (λ e. rw e (o
 
 module _ (t : Table) (a b : ℕ) (w : Whole t) (al : a < 16) (bl : b < 16) (gone : nodeAt t b .alive ≢ 1) where
   abbrev k : List Message
-  k = keep (notFrom b a) (flight t)
+  k = filter (notFrom b a) (flight t)
 
   -- any table u in which a was told of b besides, with the machines of the table before the root's reissue
   module _ (u : Table) (told : (m d : ℕ) → toldAt u m d ≡ toldAt (quieted t a b) m d) (grown : (j : ℕ) → jobAt t j .replica ≤ jobAt u j .replica)
@@ -66,9 +66,9 @@ module _ (t : Table) (a b : ℕ) (w : Whole t) (al : a < 16) (bl : b < 16) (gone
 
     senders : Every (Sender u) k
     senders =
-        every-map (λ x. (Sender t x × MessageFacts t x) × (notFrom b a x ≡ true)) (Sender u) (keep (notFrom b a) (flight t))
+        every-map (λ x. (Sender t x × MessageFacts t x) × (notFrom b a x ≡ true)) (Sender u) (filter (notFrom b a) (flight t))
         (λ x f. sender-u x (f .0) (f .1))
-        (every-keep (λ x. Sender t x × MessageFacts t x) (notFrom b a) (flight t) (every-zip (Sender t) (MessageFacts t) (flight t) (w .side .sender) (w .facts .message)))
+        (every-filter (λ x. Sender t x × MessageFacts t x) (notFrom b a) (flight t) (every-zip (Sender t) (MessageFacts t) (flight t) (w .side .sender) (w .facts .message)))
 
     copies-u : (m : ℕ) (n : Machine) → Copies t m n → n .«reserved_thief» < 16 → (n .«reserved_replica» ≢ 0 → m ≡ a → n .«reserved_thief» ≢ b) → Copies u m n
     copies-u m n c l q = record {

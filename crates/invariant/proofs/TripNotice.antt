@@ -18,7 +18,7 @@ use Rattle.table.specs.Parts.{opened, waiting, returned}
 use Rattle.table.proofs.Views.{Sized, views, sized-job, job-other, pool-node}
 use Rattle.notice.specs.Notice.{informed, unwaited, reclaimed, quieted, lost, reissueOne, reissue, noticed}
 use Rattle.preservation.proofs.Sizes.{sized-enter, sized-informed, sized-reclaimed, sized-quieted}
-use Rattle.lists.specs.Scan.{keep, upTo}
+use Rattle.lists.specs.Scan.{filter, upTo}
 use Rattle.lists.proofs.Cases.{byBool}
 use Rattle.invariant.proofs.Frame.{Frame, frame-refl, frame-node, frame-returned, job-enter, entered}
 use Rattle.invariant.proofs.About.{alive-waiting}
@@ -67,10 +67,10 @@ module _ (t : Table) (a b : ℕ) (w : Whole t) (al : a < 16) (gone : nodeAt t b 
   not-root : b ≢ 0
   not-root e = gone (rw e (w .facts .root))
 
-  trip-quieted : Trip (quieted t a b) (keep (notFrom b a) (flight t))
+  trip-quieted : Trip (quieted t a b) (filter (notFrom b a) (flight t))
   unfolding quieted informed sift
   trip-quieted =
-      let l = keep (notFrom b a) (flight t) in
+      let l = filter (notFrom b a) (flight t) in
       let i = informed t a b in
       let r = reclaimed i a b in
       let iz : Sized i = sized-informed t (w .sized) a b in

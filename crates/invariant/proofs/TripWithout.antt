@@ -15,9 +15,9 @@ use Rattle.table.specs.declared.Table.{Table}
 use Rattle.table.specs.Views.{jobAt, nodeAt, poolAt, flight}
 use Rattle.table.specs.Parts.{RESULT}
 use Rattle.preservation.proofs.Facts.{MessageFacts}
-use Rattle.lists.specs.Scan.{keep}
+use Rattle.lists.specs.Scan.{filter}
 use Rattle.lists.proofs.Cases.{byEq, and-left, and-right}
-use Rattle.lists.proofs.Count.{count, count-keep, count-keep-le, every-map, every-keep, every-zip}
+use Rattle.lists.proofs.Count.{count, count-filter, count-filter-le, every-map, every-filter, every-zip}
 use Rattle.invariant.proofs.State.{Trip, Known, Ends, Sender, Whole, isAnswer, trip, ackFrom, resultFrom, dead, has, held}
 use Rattle.invariant.proofs.TripLaws.{dead-same, dead-one, trip-eqs, trip-kinds, has-same}
 use Rattle.invariant.proofs.TripFrame.{trip-frame}
@@ -30,7 +30,7 @@ module _ (t u : Table) (d : ℕ) (q : Message → Bool) (w : Whole t) (nz : d �
     (pl : (j : ℕ) → d < 16 → j < 64 → poolAt u d j ≤ jobAt t j .replica)
     (keeps : (x : Message) → x .from ≢ d → x .to ≢ d → q x ≡ true) where
   abbrev l : List Message
-  l = keep q (flight t)
+  l = filter q (flight t)
 
   -- a dead machine stays dead
   dead-le : (p : ℕ) → dead t p ≤ dead u p
@@ -42,7 +42,7 @@ module _ (t u : Table) (d : ℕ) (q : Message → Bool) (w : Whole t) (nz : d �
   -- what is counted by p is neither from d nor to d, and stays
   counts : (p : Message → Bool) → ((x : Message) → Known t x → MessageFacts t x → Sender t x → p x ≡ true → (x .from ≢ d) × (x .to ≢ d)) → count p l ≡ count p (flight t)
   counts p far =
-      count-keep p q (flight t)
+      count-filter p q (flight t)
       (every-map (λ x. Known t x × (MessageFacts t x × Sender t x)) (λ x. p x ≡ true → q x ≡ true) (flight t)
       (λ x k e. let f = far x (k .0) (k .1 .0) (k .1 .1) e in keeps x (f .0) (f .1))
       (every-zip (Known t) (λ x. MessageFacts t x × Sender t x) (flight t) (w .trip .known)
@@ -88,9 +88,9 @@ module _ (t u : Table) (d : ℕ) (q : Message → Bool) (w : Whole t) (nz : d �
   pub trip-without : Trip u l
   trip-without =
       let g = w .trip in
-      let fewer : (p : Message → Bool) → count p l ≤ count p (flight t) = λ p. count-keep-le p q (flight t) in
+      let fewer : (p : Message → Bool) → count p l ≤ count p (flight t) = λ p. count-filter-le p q (flight t) in
       trip-frame t u l jb
-      (every-map (λ x. Known t x × (q x ≡ true)) (Known t) l (λ x a. a .0) (every-keep (Known t) q (flight t) (g .known)))
+      (every-map (λ x. Known t x × (q x ≡ true)) (Known t) l (λ x a. a .0) (every-filter (Known t) q (flight t) (g .known)))
       (λ m j a b. byEq m d (λ e. rw e (pl j (rw e at a) b)) (λ e. rw (po m j b e) (g .pools m j a b)))
       (λ j a o. omega (arith, fewer (trip j (jobAt t j .replica)), g .moves j a o))
       (λ j a o c. held-kept j (jobAt t j .replica) (jobAt t j .holder) a (g .on j a o c))

@@ -18,7 +18,7 @@ use lib.Dec.{eqb}
 use lib.ListN.{length, getD}
 use lib.Ieee.{Float, binary64, ofBits}
 use Rattle.endian.specs.Endian.{le64}
-use Rattle.lists.specs.Scan.{all, listOf}
+use Rattle.lists.specs.Scan.{all, tabulate}
 use Rattle.pricer.specs.declared.Bond.{Bond}
 use Rattle.pricer.specs.declared.Terms.the-variants.{Zero, Fixed}
 use Rattle.table.specs.declared.Job.{Job}
@@ -77,24 +77,24 @@ messageFrom s at = record {
 -- ---- the arrays
 
 unfoldable pub bondsFrom : List ℕ → List Bond
-bondsFrom s = listOf (λ i. bondFrom s (2 + 18 * i)) 64
+bondsFrom s = tabulate (λ i. bondFrom s (2 + 18 * i)) 64
 
 unfoldable pub jobsFrom : List ℕ → List Job
-jobsFrom s = listOf (λ i. jobFrom s (1154 + 13 * i)) 64
+jobsFrom s = tabulate (λ i. jobFrom s (1154 + 13 * i)) 64
 
 unfoldable pub machinesFrom : List ℕ → List Machine
-machinesFrom s = listOf (λ i. machineFrom s (1986 + 7 * i)) 16
+machinesFrom s = tabulate (λ i. machineFrom s (1986 + 7 * i)) 16
 
 -- "which dead machines it has been told of"
 unfoldable pub toldFrom : List ℕ → List ℕ
-toldFrom s = listOf (λ i. getD s (2098 + i) 0) 256
+toldFrom s = tabulate (λ i. getD s (2098 + i) 0) 256
 
 -- "a pool (per job a replica number, 0 for none)"
 unfoldable pub poolsFrom : List ℕ → List ℕ
-poolsFrom s = listOf (λ i. getD s (2354 + i) 0) 1024
+poolsFrom s = tabulate (λ i. getD s (2354 + i) 0) 1024
 
 unfoldable pub messagesFrom : List ℕ → List Message
-messagesFrom s = listOf (λ i. messageFrom s (3379 + 14 * i)) 128
+messagesFrom s = tabulate (λ i. messageFrom s (3379 + 14 * i)) 128
 
 -- ---- the whole
 

@@ -9,7 +9,7 @@ use native.Mathlib.Omega.{arith}
 use lib.ListN.{length, getD, take, drop, replicate}
 use lib.Dec.{ltb}
 use borrow.Author.Tests.{ltb-true, ltb-false}
-use Rattle.lists.specs.Scan.{keep, without, least, countTo}
+use Rattle.lists.specs.Scan.{filter, without, least, countTo}
 use Rattle.lists.proofs.Cases.{byBool, byEq}
 
 abbrev pub ind : Bool → ℕ
@@ -63,27 +63,27 @@ every-at P (x ∷ xs) zero d k h = h .0
 every-at P (x ∷ xs) (suc i) d k h = every-at P xs i d (le-of-suc-le-suc k) (h .1)
 
 -- what stays in the list passes the test too
-pub every-keep : {A : Type 0} (P : A → Type 0) (q : A → Bool) (xs : List A) → Every P xs → Every (λ x. P x × (q x ≡ true)) (keep q xs)
-unfolding keep
-every-keep P q [] h = tt
-every-keep P q (x ∷ xs) h = byBool (q x) (λ e. rw (e, keep) ((h .0, e), every-keep P q xs (h .1))) (λ e. rw (e, keep) (every-keep P q xs (h .1)))
+pub every-filter : {A : Type 0} (P : A → Type 0) (q : A → Bool) (xs : List A) → Every P xs → Every (λ x. P x × (q x ≡ true)) (filter q xs)
+unfolding filter
+every-filter P q [] h = tt
+every-filter P q (x ∷ xs) h = byBool (q x) (λ e. rw (e, filter) ((h .0, e), every-filter P q xs (h .1))) (λ e. rw (e, filter) (every-filter P q xs (h .1)))
 
 -- ---- what is dropped is not counted
 
-pub count-keep : {A : Type 0} (p q : A → Bool) (xs : List A) → Every (λ x. p x ≡ true → q x ≡ true) xs → count p (keep q xs) ≡ count p xs
-unfolding keep
-count-keep p q [] h = refl
-count-keep p q (x ∷ xs) h =
+pub count-filter : {A : Type 0} (p q : A → Bool) (xs : List A) → Every (λ x. p x ≡ true → q x ≡ true) xs → count p (filter q xs) ≡ count p xs
+unfolding filter
+count-filter p q [] h = refl
+count-filter p q (x ∷ xs) h =
     byBool (q x)
-    (λ e. rw (e, keep) (omega (arith, count-keep p q xs (h .1))))
+    (λ e. rw (e, filter) (omega (arith, count-filter p q xs (h .1))))
     (λ e. byBool (p x)
     (λ d. let z : _≡_ {A = Bool} true false = sym (h .0 d) ∙ e in absurd (true≢false z))
-    (λ d. rw (e, keep) (rw d (omega (arith, count-keep p q xs (h .1))))))
+    (λ d. rw (e, filter) (rw d (omega (arith, count-filter p q xs (h .1))))))
 
-pub count-keep-le : {A : Type 0} (p q : A → Bool) (xs : List A) → count p (keep q xs) ≤ count p xs
-unfolding keep
-count-keep-le p q [] = omega arith
-count-keep-le p q (x ∷ xs) = byBool (q x) (λ e. rw (e, keep) (omega (arith, count-keep-le p q xs))) (λ e. rw (e, keep) (omega (arith, count-keep-le p q xs)))
+pub count-filter-le : {A : Type 0} (p q : A → Bool) (xs : List A) → count p (filter q xs) ≤ count p xs
+unfolding filter
+count-filter-le p q [] = omega arith
+count-filter-le p q (x ∷ xs) = byBool (q x) (λ e. rw (e, filter) (omega (arith, count-filter-le p q xs))) (λ e. rw (e, filter) (omega (arith, count-filter-le p q xs)))
 
 -- ---- sums
 

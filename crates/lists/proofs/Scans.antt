@@ -1,4 +1,4 @@
--- The laws that a loop over indices uses, of `all`, `least`, `first` and `keep`.
+-- The laws that a loop over indices uses, of `all`, `least`, `first` and `filter`.
 -- Assumes nothing.
 use Prim.Native.Nat.{ℕ, zero, suc, _+_, _-_, _≤_, _<_}
 use mathlib.Core.Path.{_≡_, refl, sym, ap, _∙_, subst}
@@ -13,7 +13,7 @@ use lib.Dec.{ltb}
 use lib.ListN.{length, getD, take, drop, set, replicate, length-take, length-append, length-replicate, length-drop, take-append-drop, drop-of-length-le, List·getD-append, getD-replicate}
 use lib.Seq.{take-suc, drop-cons, set-append-seam, length-take-le, getD-append-add, getD-at, getD-drop, take-at, set-at, append-snoc, take-all}
 use Rattle.lists.proofs.Cases.{byEq}
-use Rattle.lists.specs.Scan.{all, least, first, keep, padTo, without, upTo, listOf, countTo}
+use Rattle.lists.specs.Scan.{all, least, first, filter, padTo, without, upTo, tabulate, countTo}
 
 module _ (p : ℕ → Bool) where
   pub all-none : all p 0 ≡ true
@@ -76,40 +76,40 @@ module _ {A : Type 0} (p : A → Bool) (l : List A) (i : ℕ) (d : A) (h : i < l
   first-later e = rw (add-one, drop-cons l i d h, e)
 
 module _ {A : Type 0} (p : A → Bool) where
-  pub keep-none : keep p [] ≡ []
-  unfolding keep
-  keep-none = refl
+  pub filter-none : filter p [] ≡ []
+  unfolding filter
+  filter-none = refl
 
-  pub keep-append : (a b : List A) → keep p (a ++ b) ≡ keep p a ++ keep p b
-  unfolding keep
-  keep-append [] b = refl
-  keep-append (x ∷ a) b = rw (keep-append a b) (go (p x) (keep p a) (keep p b))
+  pub filter-append : (a b : List A) → filter p (a ++ b) ≡ filter p a ++ filter p b
+  unfolding filter
+  filter-append [] b = refl
+  filter-append (x ∷ a) b = rw (filter-append a b) (go (p x) (filter p a) (filter p b))
     where
       go : (c : Bool) (u v : List A) → cond c (x ∷ (u ++ v)) (u ++ v) ≡ cond c (x ∷ u) u ++ v
       go true u v = refl
       go false u v = refl
 
 module _ {A : Type 0} (p : A → Bool) (l : List A) (i : ℕ) (d : A) (h : i < length l) where
-  pub keep-yes : p (getD l i d) ≡ true → keep p (take (i + 1) l) ≡ keep p (take i l) ++ (getD l i d ∷ [])
-  unfolding keep
-  keep-yes e = rw (add-one, take-suc l i d h, keep-append, e)
+  pub filter-yes : p (getD l i d) ≡ true → filter p (take (i + 1) l) ≡ filter p (take i l) ++ (getD l i d ∷ [])
+  unfolding filter
+  filter-yes e = rw (add-one, take-suc l i d h, filter-append, e)
 
-  pub keep-no : p (getD l i d) ≡ false → keep p (take (i + 1) l) ≡ keep p (take i l)
-  unfolding keep
-  keep-no e = rw (add-one, take-suc l i d h, keep-append, e) (append-nil (keep p (take i l)))
+  pub filter-no : p (getD l i d) ≡ false → filter p (take (i + 1) l) ≡ filter p (take i l)
+  unfolding filter
+  filter-no e = rw (add-one, take-suc l i d h, filter-append, e) (append-nil (filter p (take i l)))
 
 module _ {A : Type 0} (p : A → Bool) where
-  pub length-keep : (l : List A) → length (keep p l) ≤ length l
-  unfolding keep
-  length-keep [] = le-refl 0
-  length-keep (x ∷ l) = go (p x) (keep p l) (length-keep l)
+  pub length-filter : (l : List A) → length (filter p l) ≤ length l
+  unfolding filter
+  length-filter [] = le-refl 0
+  length-filter (x ∷ l) = go (p x) (filter p l) (length-filter l)
     where
       go : (c : Bool) (u : List A) → length u ≤ length l → length (cond c (x ∷ u) u) ≤ suc (length l)
       go true u h = omega arith
       go false u h = omega arith
 
-  pub length-keep-take : (i : ℕ) (l : List A) → length (keep p (take i l)) ≤ i
-  length-keep-take i l = omega (arith, length-keep (take i l), length-take i l)
+  pub length-filter-take : (i : ℕ) (l : List A) → length (filter p (take i l)) ≤ i
+  length-filter-take i l = omega (arith, length-filter (take i l), length-take i l)
 
 module _ {A : Type 0} (n : ℕ) (d : A) where
   pub pad-none : padTo n d [] ≡ replicate n d
@@ -128,29 +128,29 @@ module _ {A : Type 0} (n : ℕ) (d : A) where
 
 -- A loop that goes through ms and lays the elements of which p holds into out, from the first of its n slots: i are passed, w are laid.
 pub record Kept {A : Type 0} (p : A → Bool) (ms : List A) (n : ℕ) (d : A) (i w : ℕ) (out : List A) : Type 0 where
-  pub count : w ≡ length (keep p (take i ms))
-  pub slots : out ≡ padTo n d (keep p (take i ms))
+  pub count : w ≡ length (filter p (take i ms))
+  pub slots : out ≡ padTo n d (filter p (take i ms))
   pub within : w ≤ i
 
 module _ {A : Type 0} (p : A → Bool) (ms : List A) (n : ℕ) (d : A) where
   pub kept-none : Kept p ms n d 0 0 (replicate n d)
-  unfolding keep
+  unfolding filter
   kept-none = record { count = refl; slots = sym (pad-none n d); within = le-refl 0 }
 
   pub kept-yes : (i w : ℕ) (out : List A) → Kept p ms n d i w out → i < length ms → w < n → p (getD ms i d) ≡ true → Kept p ms n d (i + 1) (w + 1) (set out w (getD ms i d))
   kept-yes i w out k h l e =
       let c = k .count in
-      let x : length (keep p (take i ms)) < n = omega arith in
+      let x : length (filter p (take i ms)) < n = omega arith in
       record {
-        count = rw (keep-yes p ms i d h e, length-append) (omega arith);
-        slots = rw (keep-yes p ms i d h e, ← pad-more n d (keep p (take i ms)) (getD ms i d) x, k .slots, c);
+        count = rw (filter-yes p ms i d h e, length-append) (omega arith);
+        slots = rw (filter-yes p ms i d h e, ← pad-more n d (filter p (take i ms)) (getD ms i d) x, k .slots, c);
         within = omega arith;
       }
 
   pub kept-no : (i w : ℕ) (out : List A) → Kept p ms n d i w out → i < length ms → p (getD ms i d) ≡ false → Kept p ms n d (i + 1) w out
   kept-no i w out k h e =
       let v = k .within in
-      record { count = rw (keep-no p ms i d h e) (k .count); slots = rw (keep-no p ms i d h e) (k .slots); within = omega arith }
+      record { count = rw (filter-no p ms i d h e) (k .count); slots = rw (filter-no p ms i d h e) (k .slots); within = omega arith }
 
 -- A loop that moves each element after the k-th down by one place, up to the place i: ms is the list so far.
 module _ {A : Type 0} (d : A) (k : ℕ) (l : List A) (h : k < length l) where
@@ -216,55 +216,55 @@ module _ {A : Type 0} (f : ℕ → A → A) (x : A) where
   pub up-end : (n i : ℕ) (u : A) → n ≤ i → i ≤ n → u ≡ upTo f i x → u ≡ upTo f n x
   up-end n i u a b e = e ∙ ap (λ (k : ℕ). upTo f k x) (le-antisymm b a)
 
-pub list-next : {A : Type 0} (f : ℕ → A) (i : ℕ) → listOf f (i + 1) ≡ listOf f i ++ (f i ∷ [])
-unfolding listOf
-list-next f i = rw (add-one i)
+pub tabulate-next : {A : Type 0} (f : ℕ → A) (i : ℕ) → tabulate f (i + 1) ≡ tabulate f i ++ (f i ∷ [])
+unfolding tabulate
+tabulate-next f i = rw (add-one i)
 
 -- A loop that fills the first of n slots with f 0, f 1, ..
 module _ {A : Type 0} (f : ℕ → A) (n : ℕ) (d : A) where
-  pub length-list : (i : ℕ) → length (listOf f i) ≡ i
-  unfolding listOf
-  length-list zero = refl
-  length-list (suc i) = length-append (listOf f i) (f i ∷ []) ∙ ap (λ (k : ℕ). k + 1) (length-list i) ∙ add-one i
+  pub length-tabulate : (i : ℕ) → length (tabulate f i) ≡ i
+  unfolding tabulate
+  length-tabulate zero = refl
+  length-tabulate (suc i) = length-append (tabulate f i) (f i ∷ []) ∙ ap (λ (k : ℕ). k + 1) (length-tabulate i) ∙ add-one i
 
-  pub list-none : replicate n d ≡ padTo n d (listOf f 0)
-  unfolding listOf
-  list-none = sym (pad-none n d)
+  pub tabulate-none : replicate n d ≡ padTo n d (tabulate f 0)
+  unfolding tabulate
+  tabulate-none = sym (pad-none n d)
 
-  pub list-more : (i : ℕ) (out : List A) → i < n → out ≡ padTo n d (listOf f i) → set out i (f i) ≡ padTo n d (listOf f (i + 1))
-  unfolding listOf
-  list-more i out h e =
-      let s = length-list i in
+  pub tabulate-more : (i : ℕ) (out : List A) → i < n → out ≡ padTo n d (tabulate f i) → set out i (f i) ≡ padTo n d (tabulate f (i + 1))
+  unfolding tabulate
+  tabulate-more i out h e =
+      let s = length-tabulate i in
       ap (λ (r : List A). set r i (f i)) e
-      ∙ ap (λ (k : ℕ). set (padTo n d (listOf f i)) k (f i)) (sym s)
-      ∙ pad-more n d (listOf f i) (f i) (omega arith)
-      ∙ ap (λ (k : ℕ). padTo n d (listOf f k)) (sym (add-one i))
+      ∙ ap (λ (k : ℕ). set (padTo n d (tabulate f i)) k (f i)) (sym s)
+      ∙ pad-more n d (tabulate f i) (f i) (omega arith)
+      ∙ ap (λ (k : ℕ). padTo n d (tabulate f k)) (sym (add-one i))
 
-  pub list-end : (m i : ℕ) (out : List A) → m ≤ i → i ≤ m → out ≡ padTo n d (listOf f i) → out ≡ padTo n d (listOf f m)
-  list-end m i out a b e = e ∙ ap (λ (k : ℕ). padTo n d (listOf f k)) (le-antisymm b a)
+  pub tabulate-end : (m i : ℕ) (out : List A) → m ≤ i → i ≤ m → out ≡ padTo n d (tabulate f i) → out ≡ padTo n d (tabulate f m)
+  tabulate-end m i out a b e = e ∙ ap (λ (k : ℕ). padTo n d (tabulate f k)) (le-antisymm b a)
 
   -- what stands at an index
-  pub list-at : (m i : ℕ) (b : A) → i < m → getD (listOf f m) i b ≡ f i
-  unfolding listOf
-  list-at zero i b h = absurd (not-suc-le-zero h)
-  list-at (suc m) i b h =
-      let l = length-list m in
+  pub tabulate-at : (m i : ℕ) (b : A) → i < m → getD (tabulate f m) i b ≡ f i
+  unfolding tabulate
+  tabulate-at zero i b h = absurd (not-suc-le-zero h)
+  tabulate-at (suc m) i b h =
+      let l = length-tabulate m in
       byEq i m
-      (λ e. getD-at (listOf f m) (f m) [] b i (omega arith) ∙ ap f (sym e))
-      (λ e. List·getD-append (listOf f m) (f m ∷ []) b i (omega arith) ∙ list-at m i b (omega arith))
+      (λ e. getD-at (tabulate f m) (f m) [] b i (omega arith) ∙ ap f (sym e))
+      (λ e. List·getD-append (tabulate f m) (f m ∷ []) b i (omega arith) ∙ tabulate-at m i b (omega arith))
 
-  pub pad-at : (m i : ℕ) (b : A) → i < m → getD (padTo n d (listOf f m)) i b ≡ f i
+  pub pad-at : (m i : ℕ) (b : A) → i < m → getD (padTo n d (tabulate f m)) i b ≡ f i
   unfolding padTo
-  pad-at m i b h = let l = length-list m in List·getD-append (listOf f m) _ b i (omega arith) ∙ list-at m i b h
+  pad-at m i b h = let l = length-tabulate m in List·getD-append (tabulate f m) _ b i (omega arith) ∙ tabulate-at m i b h
 
-  pub pad-past : (m i : ℕ) (b : A) → m ≤ i → i < n → getD (padTo n d (listOf f m)) i b ≡ d
+  pub pad-past : (m i : ℕ) (b : A) → m ≤ i → i < n → getD (padTo n d (tabulate f m)) i b ≡ d
   unfolding padTo
   pad-past m i b h k =
-      let l = length-list m in
-      let e : i ≡ length (listOf f m) + (i - m) = omega arith in
-      ap (λ (j : ℕ). getD (listOf f m ++ replicate (n - length (listOf f m)) d) j b) e
-      ∙ getD-append-add (listOf f m) (replicate (n - length (listOf f m)) d) (i - m) b
-      ∙ getD-replicate (n - length (listOf f m)) (i - m) d b (omega arith)
+      let l = length-tabulate m in
+      let e : i ≡ length (tabulate f m) + (i - m) = omega arith in
+      ap (λ (j : ℕ). getD (tabulate f m ++ replicate (n - length (tabulate f m)) d) j b) e
+      ∙ getD-append-add (tabulate f m) (replicate (n - length (tabulate f m)) d) (i - m) b
+      ∙ getD-replicate (n - length (tabulate f m)) (i - m) d b (omega arith)
 
 -- A loop that counts the indices that pass p.
 module _ (p : ℕ → Bool) where

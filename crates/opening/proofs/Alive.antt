@@ -7,7 +7,7 @@ use native.Mathlib.Numerals.{add-one}
 use native.Mathlib.Omega.{arith}
 use lib.ListN.{replicate, set}
 use Rattle.lists.specs.Scan.{upTo}
-use Rattle.lists.proofs.Scans.{list-none, list-more}
+use Rattle.lists.proofs.Scans.{tabulate-none, tabulate-more}
 use Rattle.pricer.specs.declared.Bond.{Bond}
 use Rattle.table.specs.declared.Machine.{Machine}
 use Rattle.table.specs.declared.Table.{Table}
@@ -25,7 +25,7 @@ module _ (m n : ℕ) (bs : List Bond) where
 
   pub alive-first : (k : ℕ) → k ≤ 16 → upTo revive k (blank m n bs (replicate 16 noMachine)) ≡ blank m n bs (nodesOf k)
   unfolding upTo nodesOf
-  alive-first zero h = ap (blank m n bs) (list-none (λ i. quiet 1) 16 noMachine)
+  alive-first zero h = ap (blank m n bs) (tabulate-none (λ i. quiet 1) 16 noMachine)
   alive-first (suc k) h =
-      let more = list-more (λ i. quiet 1) 16 noMachine k (nodesOf k) (omega arith) refl in
+      let more = tabulate-more (λ i. quiet 1) 16 noMachine k (nodesOf k) (omega arith) refl in
       ap (revive k) (alive-first k (omega arith)) ∙ revive-blank k (nodesOf k) ∙ ap (blank m n bs) (rw add-one at more)

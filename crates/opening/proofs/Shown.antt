@@ -7,8 +7,8 @@ use native.Mathlib.Omega.{arith}
 use borrow.Author.Tests.{eq-eqb, eqb-true, ltb-true, ltb-false}
 use lib.Dec.{eqb, ltb}
 use lib.ListN.{length-replicate}
-use Rattle.lists.specs.Scan.{padTo, listOf}
-use Rattle.lists.proofs.Scans.{length-pad, length-list, pad-at, pad-past}
+use Rattle.lists.specs.Scan.{padTo, tabulate}
+use Rattle.lists.proofs.Scans.{length-pad, length-tabulate, pad-at, pad-past}
 use Rattle.lists.proofs.Cases.{byBool}
 use Rattle.lists.proofs.Count.{getD-same}
 use Rattle.book.specs.Book.{bookVerdict}
@@ -25,7 +25,7 @@ module _ (s : List ℕ) where
   unfolding freshOf blank nodesOf
   sized-fresh = record {
     jobs = length-replicate 64 noJob;
-    nodes = length-pad 16 noMachine (listOf (λ k. quiet 1) (machineCount s)) (omega (arith, length-list (λ k. quiet 1) 16 noMachine (machineCount s), machines-most s));
+    nodes = length-pad 16 noMachine (tabulate (λ k. quiet 1) (machineCount s)) (omega (arith, length-tabulate (λ k. quiet 1) 16 noMachine (machineCount s), machines-most s));
     told = length-replicate {A = ℕ} 256 0;
     pools = length-replicate {A = ℕ} 1024 0;
     messages = length-replicate 128 noMessage;

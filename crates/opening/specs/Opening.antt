@@ -4,7 +4,7 @@ use mathlib.Core.Bool.{cond}
 use mathlib.Core.List.{List}
 use lib.Dec.{eqb}
 use lib.ListN.{replicate}
-use Rattle.lists.specs.Scan.{padTo, listOf}
+use Rattle.lists.specs.Scan.{padTo, tabulate}
 use Rattle.pricer.specs.declared.Bond.{Bond}
 use Rattle.book.specs.Book.{bookVerdict}
 use Rattle.book.specs.Parts.{machineCount, entryCount, noBond, bondOf}
@@ -24,11 +24,11 @@ quiet a = record { alive = a; «reserved_job» = 0; «reserved_replica» = 0; «
 
 -- "the terms of each entry"; past the last one there is no bond
 unfoldable pub bondsOf : List ℕ → List Bond
-bondsOf s = padTo 64 noBond (listOf (bondOf s) (entryCount s))
+bondsOf s = padTo 64 noBond (tabulate (bondOf s) (entryCount s))
 
 -- "every machine alive"; past the last one there is no machine
 unfoldable pub nodesOf : ℕ → List Machine
-nodesOf m = padTo 16 noMachine (listOf (λ k. quiet 1) m)
+nodesOf m = padTo 16 noMachine (tabulate (λ k. quiet 1) m)
 
 -- "A table as opened is fresh: every machine alive and told of nothing, no job admitted, no copy, wait or message."
 unfoldable pub freshOf : List ℕ → Table

@@ -8,7 +8,7 @@ use borrow.Author.Tests.{eqb-true}
 use lib.Dec.{eqb, ltb}
 use lib.ListN.{length, take, drop, length-append, length-take}
 use Rattle.lists.proofs.Cases.{byBool}
-use Rattle.lists.proofs.Scans.{length-list}
+use Rattle.lists.proofs.Scans.{length-tabulate}
 use Rattle.text.specs.Text.{joined}
 use Rattle.text.proofs.Over.{joined-most}
 use Rattle.lines.specs.Lines.{entryLine}
@@ -62,7 +62,7 @@ module _ (book : List ℕ) (t : Table) (s : Sized t) (h : tableOk t ≡ true) wh
 pub listed-most : (t : Table) (s : List ℕ) → length s ≤ 60000 → length (refusalsOf 1 t (eventsIn s)) ≤ 460000
 unfolding eventsIn
 listed-most t s h =
-    omega (arith, refusals-most 1 t (eventsIn s), length-list (eventAt s) 0 [] (eventCount s))
+    omega (arith, refusals-most 1 t (eventsIn s), length-tabulate (eventAt s) 0 [] (eventCount s))
 
 -- ---- the page
 

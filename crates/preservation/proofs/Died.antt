@@ -6,9 +6,9 @@ use mathlib.Core.Logic.{_≢_}
 use mathlib.Core.Bool.{true, _&&_}
 use borrow.Author.Tests.{le-leb, eqb-false, not-true}
 use lib.Dec.{eqb, leb, ltb}
-use Rattle.lists.specs.Scan.{keep}
+use Rattle.lists.specs.Scan.{filter}
 use Rattle.lists.proofs.Cases.{byBool, byEq, and-left}
-use Rattle.lists.proofs.Count.{every-map, every-keep}
+use Rattle.lists.proofs.Count.{every-map, every-filter}
 use Rattle.table.specs.declared.Table.{Table}
 use Rattle.table.specs.declared.Message.{Message}
 use Rattle.table.specs.Views.{noMachine, bondAt, jobAt, nodeAt, poolAt, toldAt, flight, withNode}
@@ -71,9 +71,9 @@ module _ (t : Table) (a : ℕ) where
   unfolding died sift
   entries-died = simp (views, entries-wipe)
 
-  pub flight-died : flight (died t a) ≡ keep (notTo a) (flight t)
+  pub flight-died : flight (died t a) ≡ filter (notTo a) (flight t)
   unfolding died
-  flight-died = flight-sift (withNode (wipe t a) a noMachine) (notTo a) ∙ ap (keep (notTo a)) (flight-node (wipe t a) a noMachine ∙ flight-wipe t a)
+  flight-died = flight-sift (withNode (wipe t a) a noMachine) (notTo a) ∙ ap (filter (notTo a)) (flight-node (wipe t a) a noMachine ∙ flight-wipe t a)
 
   pub bound-died : bound (died t a) ≡ bound t
   unfolding bound
@@ -105,9 +105,9 @@ module _ (t : Table) (s : Sized t) (o : Ok t) (a : ℕ) (h : a < 16) (nz : a ≢
         byEq k a
         (λ e. let q = pool-died-own t a s h i m in rw e (simp q))
         (λ e. let q = node-died-other t a k e in let z = pool-died-other t a k i m e in simp (q, z) (o .pool k i l m)));
-    messages = rw (flight-died t a) (every-map (λ x. (inFlightOk t x ≡ true) × (notTo a x ≡ true)) (λ x. inFlightOk (died t a) x ≡ true) (keep (notTo a) (flight t))
+    messages = rw (flight-died t a) (every-map (λ x. (inFlightOk t x ≡ true) × (notTo a x ≡ true)) (λ x. inFlightOk (died t a) x ≡ true) (filter (notTo a) (flight t))
         (λ x c. let q = node-died-other t a (x .to) (far x (c .1)) in simp (machines-died t a, entries-died t a, bound-died t a, q) (c .0))
-        (every-keep (λ x. inFlightOk t x ≡ true) (notTo a) (flight t) (o .messages)));
+        (every-filter (λ x. inFlightOk t x ≡ true) (notTo a) (flight t) (o .messages)));
     padded = unfold died in padded-sift (withNode (wipe t a) a noMachine) (sized-node (wipe t a) a noMachine (sized-wipe t a s)) (notTo a);
     root = rw (node-died-other t a 0 (λ e. nz (sym e))) (o .root);
     told = λ k i l m. simp (machines-died t a, told-died t a) (

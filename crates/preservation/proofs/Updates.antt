@@ -7,10 +7,10 @@ use mathlib.Core.List.{List}
 use native.Mathlib.Omega.{arith}
 use borrow.Author.Tests.{le-leb}
 use lib.Dec.{eqb, leb}
-use Rattle.lists.specs.Scan.{keep}
-use Rattle.lists.proofs.Scans.{length-keep}
+use Rattle.lists.specs.Scan.{filter}
+use Rattle.lists.proofs.Scans.{length-filter}
 use Rattle.lists.proofs.Cases.{byBool, byEq, and-left}
-use Rattle.lists.proofs.Count.{Every, every-map, every-append, every-delete, every-keep}
+use Rattle.lists.proofs.Count.{Every, every-map, every-append, every-delete, every-filter}
 use Rattle.table.specs.declared.Table.{Table}
 use Rattle.table.specs.declared.Job.{Job}
 use Rattle.table.specs.declared.Machine.{Machine}
@@ -148,12 +148,12 @@ module _ (t : Table) (s : Sized t) (o : Ok t) where
   pub ok-sift : (p : Message → Bool) → Ok (sift t p)
   unfolding sift
   ok-sift p =
-      let a = length-keep p (flight t) in
+      let a = length-filter p (flight t) in
       let b = length-flight t s in
       ok-messages t s o _ _ (omega (arith, s .used))
       (rw (flight-sift t p)
-      (every-map (λ x. (inFlightOk t x ≡ true) × (p x ≡ true)) (λ x. inFlightOk t x ≡ true) (keep p (flight t)) (λ x e. e .0)
-      (every-keep (λ x. inFlightOk t x ≡ true) p (flight t) (o .messages))))
+      (every-map (λ x. (inFlightOk t x ≡ true) × (p x ≡ true)) (λ x. inFlightOk t x ≡ true) (filter p (flight t)) (λ x e. e .0)
+      (every-filter (λ x. inFlightOk t x ≡ true) p (flight t) (o .messages))))
       (padded-sift t s p)
 
   pub ok-send : (x : Message) → t .«in_flight» < 128 → messageOk (t .machines) (t .entries) (bound t) x ≡ true → Ok (send t x)

@@ -10,7 +10,7 @@ use lib.ListN.{length, getD}
 use lib.Seq.{take-all}
 use Rattle.lists.specs.Scan.{all}
 use Rattle.lists.proofs.Cases.{byBool, and-left, and-right}
-use Rattle.lists.proofs.Scans.{all-at, list-at}
+use Rattle.lists.proofs.Scans.{all-at, tabulate-at}
 use Rattle.pricer.specs.Range.{nought, couponInRange, yieldInRange, periodsInRange, termsInRange, inRange}
 use Rattle.pricer.specs.declared.Bond.{Bond}
 use Rattle.pricer.specs.declared.Terms.{Terms}
@@ -64,19 +64,19 @@ module _ (s : List ℕ) (small : AreBytes s) (l : length s ≡ 5171) where
   unfolding jobsBytes jobsFrom
   jobs-part =
       elements s _ 1154 13 64
-      (λ i k. ap jobBytes (list-at (λ j. jobFrom s (1154 + 13 * j)) 64 noJob 64 i noJob k) ∙ job-part s small (1154 + 13 * i) (omega arith))
+      (λ i k. ap jobBytes (tabulate-at (λ j. jobFrom s (1154 + 13 * j)) 64 noJob 64 i noJob k) ∙ job-part s small (1154 + 13 * i) (omega arith))
 
   machines-part : machinesBytes (machinesFrom s) ≡ part s 1986 112
   unfolding machinesBytes machinesFrom
   machines-part =
       elements s _ 1986 7 16
-      (λ i k. ap machineBytes (list-at (λ j. machineFrom s (1986 + 7 * j)) 16 noMachine 16 i noMachine k) ∙ machine-part s small (1986 + 7 * i) (omega arith))
+      (λ i k. ap machineBytes (tabulate-at (λ j. machineFrom s (1986 + 7 * j)) 16 noMachine 16 i noMachine k) ∙ machine-part s small (1986 + 7 * i) (omega arith))
 
   messages-part : messagesBytes (messagesFrom s) ≡ part s 3379 1792
   unfolding messagesBytes messagesFrom
   messages-part =
       elements s _ 3379 14 128
-      (λ i k. ap messageBytes (list-at (λ j. messageFrom s (3379 + 14 * j)) 128 noMessage 128 i noMessage k) ∙ message-part s small (3379 + 14 * i) (omega arith))
+      (λ i k. ap messageBytes (tabulate-at (λ j. messageFrom s (3379 + 14 * j)) 128 noMessage 128 i noMessage k) ∙ message-part s small (3379 + 14 * i) (omega arith))
 
   told-part : toldFrom s ≡ part s 2098 256
   unfolding toldFrom
@@ -96,7 +96,7 @@ module _ (s : List ℕ) (small : AreBytes s) (l : length s ≡ 5171) where
   module _ (f : all (λ i. termsFormed s (2 + 18 * i)) 64 ≡ true) (ok : tableOk (tableFrom s) ≡ true) where
     bond-is : (i : ℕ) → i < 64 → bondAt (tableFrom s) i ≡ bondFrom s (2 + 18 * i)
     unfolding bondAt tableFrom bondsFrom
-    bond-is i k = list-at (λ j. bondFrom s (2 + 18 * j)) 64 pastBond 64 i pastBond k
+    bond-is i k = tabulate-at (λ j. bondFrom s (2 + 18 * j)) 64 pastBond 64 i pastBond k
 
     bonds-real : (i : ℕ) → i < 64 → RatesReal (bondFrom s (2 + 18 * i) .terms)
     unfolding bondsOk
@@ -108,7 +108,7 @@ module _ (s : List ℕ) (small : AreBytes s) (l : length s ≡ 5171) where
     unfolding bondsBytes bondsFrom
     bonds-part =
         elements s _ 2 18 64
-        (λ i k. ap bondBytes (list-at (λ j. bondFrom s (2 + 18 * j)) 64 pastBond 64 i pastBond k)
+        (λ i k. ap bondBytes (tabulate-at (λ j. bondFrom s (2 + 18 * j)) 64 pastBond 64 i pastBond k)
         ∙ bond-part s small (2 + 18 * i) (omega arith) (all-at (λ j. termsFormed s (2 + 18 * j)) 64 i f k) (bonds-real i k))
 
     entries-part : entriesBytes (tableFrom s) ≡ part s 0 1986

@@ -8,9 +8,9 @@ use lib.Dec.{eqb, ltb}
 use lib.Ieee.{binary64, fits}
 use lib.Ieee.Bits.{ofBits-fits}
 use lib.ListN.{length, getD}
-use Rattle.lists.specs.Scan.{listOf}
+use Rattle.lists.specs.Scan.{tabulate}
 use Rattle.lists.proofs.Cases.{byBool}
-use Rattle.lists.proofs.Scans.{length-list, length-pad, list-at}
+use Rattle.lists.proofs.Scans.{length-tabulate, length-pad, tabulate-at}
 use Rattle.endian.specs.Endian.{le64}
 use Rattle.pricer.specs.declared.Bond.{Bond}
 use Rattle.pricer.specs.declared.Terms.the-variants.{Zero, Fixed}
@@ -48,17 +48,17 @@ rates-read s at =
 long-from : (s : List ℕ) → Long (tableFrom s)
 unfolding tableFrom bondsFrom jobsFrom machinesFrom toldFrom poolsFrom messagesFrom
 long-from s = record {
-  bonds = length-list (λ i. bondFrom s (2 + 18 * i)) 64 pastBond 64;
-  jobs = length-list (λ i. jobFrom s (1154 + 13 * i)) 64 noJob 64;
-  nodes = length-list (λ i. machineFrom s (1986 + 7 * i)) 16 noMachine 16;
-  told = length-list (λ i. getD s (2098 + i) 0) 256 0 256;
-  pools = length-list (λ i. getD s (2354 + i) 0) 1024 0 1024;
-  messages = length-list (λ i. messageFrom s (3379 + 14 * i)) 128 noMessage 128;
+  bonds = length-tabulate (λ i. bondFrom s (2 + 18 * i)) 64 pastBond 64;
+  jobs = length-tabulate (λ i. jobFrom s (1154 + 13 * i)) 64 noJob 64;
+  nodes = length-tabulate (λ i. machineFrom s (1986 + 7 * i)) 16 noMachine 16;
+  told = length-tabulate (λ i. getD s (2098 + i) 0) 256 0 256;
+  pools = length-tabulate (λ i. getD s (2354 + i) 0) 1024 0 1024;
+  messages = length-tabulate (λ i. messageFrom s (3379 + 14 * i)) 128 noMessage 128;
 }
 
 rates-from : (s : List ℕ) (j : ℕ) → j < 64 → RatesFit (getD (tableFrom s .bonds) j pastBond .terms)
 unfolding tableFrom bondsFrom
-rates-from s j k = rw (list-at (λ i. bondFrom s (2 + 18 * i)) 64 pastBond 64 j pastBond k) (rates-read s (2 + 18 * j))
+rates-from s j k = rw (tabulate-at (λ i. bondFrom s (2 + 18 * i)) 64 pastBond 64 j pastBond k) (rates-read s (2 + 18 * j))
 
 pub held-from : (s : List ℕ) → Held (tableFrom s)
 held-from s = record { long = long-from s; rates = rates-from s }
@@ -99,7 +99,7 @@ bonds-long : (s : List ℕ) → length (freshOf s .bonds) ≡ 64
 unfolding freshOf blank bondsOf
 bonds-long s =
     let n = entryCount s in
-    length-pad 64 noBond (listOf (bondOf s) n) (omega (arith, length-list (bondOf s) 64 noBond n, entries-most s))
+    length-pad 64 noBond (tabulate (bondOf s) n) (omega (arith, length-tabulate (bondOf s) 64 noBond n, entries-most s))
 
 shown-fresh : (s : List ℕ) (j : ℕ) → j < 64 → getD (freshOf s .bonds) j pastBond ≡ bondOf s j
 unfolding views.bondAt

@@ -11,7 +11,7 @@ use lib.Ieee.{binary64, isNan, toBits}
 use lib.Ieee.Bits.{toBits-ofBits}
 use lib.ListN.{length, getD, take, drop, length-drop}
 use lib.Seq.{drop-cons, drop-drop, take-add, length-take-le, getD-take, getD-drop}
-use Rattle.lists.specs.Scan.{listOf}
+use Rattle.lists.specs.Scan.{tabulate}
 use Rattle.lists.proofs.Cases.{byBool}
 use Rattle.endian.specs.Endian.{le16, le32, le64}
 use Rattle.text.specs.Text.{joined}
@@ -49,7 +49,7 @@ module _ (s : List ℕ) where
   next at k n h = let e : at + suc k ≡ at + k + 1 = omega arith in ap (λ (i : ℕ). getD s (at + k) 0 ∷ part s i n) e ∙ start (at + k) n h
 
   -- all of them, as a list by its indices
-  pub listed : (at n : ℕ) → at + n ≤ length s → listOf (λ i. getD s (at + i) 0) n ≡ part s at n
+  pub listed : (at n : ℕ) → at + n ≤ length s → tabulate (λ i. getD s (at + i) 0) n ≡ part s at n
   listed at n h =
       list-is (λ i. getD s (at + i) 0) (part s at n) 0 n (length-take-le n (drop at s) (omega (arith, length-drop at s)))
       (λ i k. sym (getD-take n (drop at s) i 0 k ∙ getD-drop at s i 0))

@@ -9,9 +9,9 @@ use native.Mathlib.Omega.{arith}
 use borrow.Author.Tests.{eq-eqb, ne-eqb}
 use lib.Dec.{eqb}
 use lib.ListN.{length, length-append}
-use Rattle.lists.specs.Scan.{listOf}
+use Rattle.lists.specs.Scan.{tabulate}
 use Rattle.lists.proofs.Cases.{byBool}
-use Rattle.lists.proofs.Scans.{length-list, list-next}
+use Rattle.lists.proofs.Scans.{length-tabulate, tabulate-next}
 use Rattle.lines.specs.Lines.{eventRefused}
 use Rattle.lines.proofs.Longest.{event-most}
 use Rattle.table.specs.declared.Table.{Table}
@@ -86,34 +86,34 @@ refusals-most place t (e ∷ es) =
 
 -- the first k events of s have been run from t, and their lines stand at the front of the buffer d, which is now e
 pub record Turn (t : Table) (s d : List ℕ) (k at : ℕ) (u : Table) (e : List ℕ) : Type 0 where
-  pub table : u ≡ runOf t (listOf (eventAt s) k)
-  pub lines : Written d 0 (refusalsOf 1 t (listOf (eventAt s) k)) e at
+  pub table : u ≡ runOf t (tabulate (eventAt s) k)
+  pub lines : Written d 0 (refusalsOf 1 t (tabulate (eventAt s) k)) e at
   pub most : at ≤ 23 * k
 
 module _ (t : Table) (s d : List ℕ) where
   pub turn-none : Turn t s d 0 0 t d
-  unfolding listOf runOf refusalsOf
+  unfolding tabulate runOf refusalsOf
   turn-none = record { table = refl; lines = record { text = sym (over-none d 0); end = refl }; most = omega arith }
 
   pub turn-more : (k at : ℕ) (u : Table) (e f : List ℕ) (r : Ran) → Turn t s d k at u e
       → Listed e at (refusal (k + 1) (stepOf u (eventAt s k) .number)) (stepOf u (eventAt s k) .table) f r
       → 23 * (k + 1) ≤ length d → Turn t s d (k + 1) (r .length) (r .table) f
   turn-more k at u e f r p q h =
-      let es = listOf (eventAt s) k in
+      let es = tabulate (eventAt s) k in
       let b = eventAt s k in
-      let l : length es ≡ k = length-list (eventAt s) 0 [] k in
+      let l : length es ≡ k = length-tabulate (eventAt s) 0 [] k in
       let place : 1 + length es ≡ k + 1 = omega arith in
-      let w : refusalsOf 1 t es ++ refusal (k + 1) (stepOf u b .number) ≡ refusalsOf 1 t (listOf (eventAt s) (k + 1)) =
+      let w : refusalsOf 1 t es ++ refusal (k + 1) (stepOf u b .number) ≡ refusalsOf 1 t (tabulate (eventAt s) (k + 1)) =
       ap (λ (v : Table). refusalsOf 1 t es ++ refusal (k + 1) (stepOf v b .number)) (p .table)
       ∙ ap (λ (n : ℕ). refusalsOf 1 t es ++ refusal n (stepOf (runOf t es) b .number)) (sym place)
       ∙ sym (refusals-more 1 t es b)
-      ∙ ap (refusalsOf 1 t) (sym (list-next (eventAt s) k)) in
-      let m : length (refusalsOf 1 t (listOf (eventAt s) (k + 1))) ≤ 23 * (k + 1) =
-      omega (arith, refusals-most 1 t (listOf (eventAt s) (k + 1)), length-list (eventAt s) 0 [] (k + 1)) in
+      ∙ ap (refusalsOf 1 t) (sym (tabulate-next (eventAt s) k)) in
+      let m : length (refusalsOf 1 t (tabulate (eventAt s) (k + 1))) ≤ 23 * (k + 1) =
+      omega (arith, refusals-most 1 t (tabulate (eventAt s) (k + 1)), length-tabulate (eventAt s) 0 [] (k + 1)) in
       let g : Written d 0 (refusalsOf 1 t es ++ refusal (k + 1) (stepOf u b .number)) f (r .length) = then (p .lines) (q .lines) (rw w (omega arith)) in
-      let x : Written d 0 (refusalsOf 1 t (listOf (eventAt s) (k + 1))) f (r .length) = rw w at g in
+      let x : Written d 0 (refusalsOf 1 t (tabulate (eventAt s) (k + 1))) f (r .length) = rw w at g in
       record {
-        table = q .table ∙ ap (λ (v : Table). stepOf v b .table) (p .table) ∙ sym (run-more t es b) ∙ ap (runOf t) (sym (list-next (eventAt s) k));
+        table = q .table ∙ ap (λ (v : Table). stepOf v b .table) (p .table) ∙ sym (run-more t es b) ∙ ap (runOf t) (sym (tabulate-next (eventAt s) k));
         lines = x;
         most = omega (arith, x .end);
       }

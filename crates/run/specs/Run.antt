@@ -5,7 +5,7 @@ use mathlib.Core.Bool.{cond}
 use mathlib.Core.List.{List, [], _∷_, _++_}
 use lib.Dec.{eqb}
 use lib.ListN.{length, take, drop}
-use Rattle.lists.specs.Scan.{listOf}
+use Rattle.lists.specs.Scan.{tabulate}
 use Rattle.text.specs.Text.{Written}
 use Rattle.lines.specs.Lines.{eventRefused}
 use Rattle.table.specs.declared.Table.{Table}
@@ -22,7 +22,7 @@ eventCount s = (length s + 2) / 3
 
 -- "Refused events stay in the list, those of too few bytes included."
 unfoldable pub eventsIn : List ℕ → List (List ℕ)
-eventsIn s = listOf (eventAt s) (eventCount s)
+eventsIn s = tabulate (eventAt s) (eventCount s)
 
 -- an accepted event, answered 0, prints nothing
 unfoldable pub refusal : ℕ → ℕ → List ℕ

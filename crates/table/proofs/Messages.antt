@@ -12,19 +12,19 @@ use Rattle.table.specs.declared.Table.{Table}
 use Rattle.table.specs.declared.Message.{Message}
 use Rattle.table.specs.Views.{noMessage, nodeAt, flight, messageAt, withMessages}
 use Rattle.table.specs.Messages.{push, pull, sift, send}
-use Rattle.lists.specs.Scan.{without, keep, padTo}
+use Rattle.lists.specs.Scan.{without, filter, padTo}
 use lib.Dec.{eqb}
 use Rattle.lists.proofs.Cases.{byBool}
-use Rattle.lists.proofs.Scans.{pad-more, length-pad, length-keep}
+use Rattle.lists.proofs.Scans.{pad-more, length-pad, length-filter}
 use Rattle.table.proofs.Views.{Sized, sized-messages, length-flight}
 
 -- the slots past those in flight are empty
 unfoldable pub Padded : Table → Type 0
 Padded t = t .messages ≡ padTo 128 noMessage (flight t)
 
-pub flight-sift : (t : Table) (p : Message → Bool) → flight (sift t p) ≡ keep p (flight t)
+pub flight-sift : (t : Table) (p : Message → Bool) → flight (sift t p) ≡ filter p (flight t)
 unfolding flight sift withMessages padTo
-flight-sift t p = take-append-seam (keep p (take (t .«in_flight») (t .messages))) _
+flight-sift t p = take-append-seam (filter p (take (t .«in_flight») (t .messages))) _
 
 module _ (t : Table) (s : Sized t) where
   pub flight-push : (m : Message) → t .«in_flight» < 128 → flight (push t m) ≡ flight t ++ (m ∷ [])
@@ -67,9 +67,9 @@ module _ (t : Table) (s : Sized t) where
   pub sized-sift : (p : Message → Bool) → Sized (sift t p)
   unfolding sift
   sized-sift p =
-      let a = length-keep p (flight t) in
+      let a = length-filter p (flight t) in
       let b = length-flight t s in
-      sized-messages t _ _ (length-pad 128 noMessage (keep p (flight t)) (omega arith)) (omega arith) s
+      sized-messages t _ _ (length-pad 128 noMessage (filter p (flight t)) (omega arith)) (omega arith) s
 
   pub message-flight : (i : ℕ) → i < t .«in_flight» → getD (flight t) i noMessage ≡ messageAt t i
   unfolding flight messageAt
@@ -110,5 +110,5 @@ module _ (t : Table) (s : Sized t) where
   unfolding Padded
   padded-sift p = sifted ∙ ap (padTo 128 noMessage) (sym (flight-sift t p))
     where
-      sifted : sift t p .messages ≡ padTo 128 noMessage (keep p (flight t))
+      sifted : sift t p .messages ≡ padTo 128 noMessage (filter p (flight t))
       sifted = unfold sift withMessages in refl

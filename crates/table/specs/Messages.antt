@@ -4,7 +4,7 @@ use mathlib.Core.Bool.{Bool, not, cond, _&&_}
 use Prim.Native.Nat.{ℕ, _+_, _-_}
 use lib.Dec.{eqb}
 use lib.ListN.{length, set}
-use Rattle.lists.specs.Scan.{least, keep, padTo, without, upTo}
+use Rattle.lists.specs.Scan.{least, filter, padTo, without, upTo}
 use Rattle.table.specs.declared.Message.{Message}
 use Rattle.table.specs.declared.Table.{Table}
 use Rattle.table.specs.Views.{noMessage, nodeAt, poolAt, messageAt, flight, withMessages, withPool}
@@ -19,7 +19,7 @@ pull t k = withMessages t (t .«in_flight» - 1) (without k (t .messages) ++ (no
 
 -- only the messages of which p holds stay in flight, in their order
 unfoldable pub sift : Table → (Message → Bool) → Table
-sift t p = withMessages t (length (keep p (flight t))) (padTo 128 noMessage (keep p (flight t)))
+sift t p = withMessages t (length (filter p (flight t))) (padTo 128 noMessage (filter p (flight t)))
 
 -- "A message to a dead machine is stored nowhere."
 unfoldable pub send : Table → Message → Table

@@ -3,8 +3,8 @@ use Rattle.lists.proofs.Rules.{tests}
 use Prim.Native.Nat.{_+_, _*_, _-_, _≤_}
 use mathlib.Core.Path.{_≡_, ap, _∙_}
 use lib.ListN.{length, set}
-use Rattle.lists.specs.Scan.{padTo, listOf}
-use Rattle.lists.proofs.Scans.{list-none, list-more}
+use Rattle.lists.specs.Scan.{padTo, tabulate}
+use Rattle.lists.proofs.Scans.{tabulate-none, tabulate-more}
 use lib.Ieee.{binary64, ofBits}
 use Rattle.pricer.specs.declared.Bond.{Bond}
 use Rattle.pricer.specs.declared.Terms.the-variants.{Zero}
@@ -18,13 +18,13 @@ abbrev blank : Bond
 blank = record { periods = 0; terms = Zero (ofBits binary64 0) }
 
 abbrev Inv-loop : tie.InvT-loop
-Inv-loop s out₀ i₀ out i = (length s ≡ 5171) × (i ≤ 64) × (out ≡ padTo 64 blank (listOf (λ k. bondFrom s (2 + 18 * k)) i))
+Inv-loop s out₀ i₀ out i = (length s ≡ 5171) × (i ≤ 64) × (out ≡ padTo 64 blank (tabulate (λ k. bondFrom s (2 + 18 * k)) i))
 
 abbrev μ-loop : tie.MeasureT-loop
 μ-loop s out₀ i₀ out i = 64 - i
 
 loop-holds : tie.Need-loop-holds Inv-loop μ-loop
-loop-holds c = (search tests, search tests, list-none _ 64 blank)
+loop-holds c = (search tests, search tests, tabulate-none _ 64 blank)
 
 mul-bond : tie.Need-mul-bond Inv-loop μ-loop
 mul-bond c = search tests
@@ -54,7 +54,7 @@ loop-again c =
       l .loop .inv .0,
       search tests,
       ap (λ (x : Bond). set (l .loop .out) (l .loop .i) x) (c .bond .ensures)
-          ∙ list-more (λ k. bondFrom s (2 + 18 * k)) 64 blank (l .loop .i) (l .loop .out) (search tests) (l .loop .inv .2),
+          ∙ tabulate-more (λ k. bondFrom s (2 + 18 * k)) 64 blank (l .loop .i) (l .loop .out) (search tests) (l .loop .inv .2),
     )
 
 returns : tie.Need-returns Inv-loop μ-loop

@@ -6,7 +6,7 @@ use mathlib.Core.Path.{_∙_, _≡_, sym}
 use native.Mathlib.Omega.{arith}
 use Rattle.lists.proofs.Rules.{tests}
 use Rattle.lists.proofs.Scans.{Kept, kept-no, kept-none, kept-yes}
-use Rattle.lists.specs.Scan.{keep, padTo}
+use Rattle.lists.specs.Scan.{filter, padTo}
 use Rattle.table.proofs.Long.{long}
 use Rattle.table.specs.Messages.{sift}
 use Rattle.table.specs.Views.{noMessage, parts}
@@ -72,8 +72,8 @@ returns c =
     let p = others (a .any) (a .from) (a .to) in
     let e : c .before .loop .i ≡ a .t1 .«in_flight» = omega arith in
     let k = c .before .loop .inv .1 in
-    let x : c .before .loop .w ≡ length (keep p (take (a .t1 .«in_flight») (a .t1 .messages))) = rw e at (k .count) in
-    let y : c .before .loop .out ≡ padTo 128 noMessage (keep p (take (a .t1 .«in_flight») (a .t1 .messages))) = rw e at (k .slots) in
+    let x : c .before .loop .w ≡ length (filter p (take (a .t1 .«in_flight») (a .t1 .messages))) = rw e at (k .count) in
+    let y : c .before .loop .out ≡ padTo 128 noMessage (filter p (take (a .t1 .«in_flight») (a .t1 .messages))) = rw e at (k .slots) in
     rw (x, y)
 
 pub drop-spec : {M : Type 1} → statement M

@@ -6,9 +6,9 @@ use Rattle.pricer.specs.declared.Bond.{Bond}
 use lib.ListN.{set}
 use native.Mathlib.Omega.{arith}
 use mathlib.Core.Path.{_≡_, ap, _∙_}
-use Rattle.lists.proofs.Scans.{list-none, list-more, list-end}
+use Rattle.lists.proofs.Scans.{tabulate-none, tabulate-more, tabulate-end}
 use Rattle.opening.proofs.Counts.{entries-most}
-use Rattle.lists.specs.Scan.{padTo, listOf}
+use Rattle.lists.specs.Scan.{padTo, tabulate}
 use Rattle.book.specs.Parts.{entryCount, noBond, bondOf}
 use Rattle.book.proofs.Accepted.{counted, bond-counted}
 use Rattle.opening.specs.Opening.{bondsOf}
@@ -16,7 +16,7 @@ use Rattle.opening.proofs.bonds.Statement.{statement}
 use Rattle.opening.proofs.bonds.Tie as tie
 
 abbrev Inv-loop : tie.InvT-loop
-Inv-loop s n out₀ i₀ out i = (n ≡ entryCount s) × (i ≤ n) × (out ≡ padTo 64 noBond (listOf (bondOf s) i))
+Inv-loop s n out₀ i₀ out i = (n ≡ entryCount s) × (i ≤ n) × (out ≡ padTo 64 noBond (tabulate (bondOf s) i))
 
 abbrev μ-loop : tie.MeasureT-loop
 μ-loop s n out₀ i₀ out i = n - i
@@ -35,7 +35,7 @@ below : (c : tie.In-loop Inv-loop μ-loop) → c .before .loop .i < entryCount (
 below c = omega (arith, c .before .loop .inv .0)
 
 loop-holds : tie.Need-loop-holds Inv-loop μ-loop
-loop-holds c = (c .before .entries .ensures, search tests, c .no-bonds .ensures ∙ list-none _ 64 noBond)
+loop-holds c = (c .before .entries .ensures, search tests, c .no-bonds .ensures ∙ tabulate-none _ 64 noBond)
 
 bond-at-requires : tie.Need-bond-at-requires Inv-loop μ-loop
 bond-at-requires c κs =
@@ -64,12 +64,12 @@ loop-again c =
       search tests,
       ap (λ (b : Bond). set (l .loop .out) (l .loop .i) b)
           (c .bond-at .ensures ∙ bond-counted s (l .loop .i) _ (l .loop .inv .0) (below (c .before)))
-          ∙ list-more (bondOf s) 64 noBond (l .loop .i) (l .loop .out) (omega (arith, below (c .before), entries-most s)) (l .loop .inv .2),
+          ∙ tabulate-more (bondOf s) 64 noBond (l .loop .i) (l .loop .out) (omega (arith, below (c .before), entries-most s)) (l .loop .inv .2),
     )
 
 returns : tie.Need-returns Inv-loop μ-loop
 unfolding bondsOf
-returns c = list-end _ 64 noBond _ (c .before .loop .i) (c .before .loop .out) (omega (arith, c .before .loop .inv .0)) (omega (arith, c .before .loop .inv .0)) (c .before .loop .inv .2)
+returns c = tabulate-end _ 64 noBond _ (c .before .loop .i) (c .before .loop .out) (omega (arith, c .before .loop .inv .0)) (omega (arith, c .before .loop .inv .0)) (c .before .loop .inv .2)
 
 pub bonds-spec : {M : Type 1} → statement M
 bonds-spec =

@@ -7,7 +7,7 @@ use mathlib.Core.List.{List}
 use Prim.Native.Nat.{ℕ, _+_, _-_, _≤_}
 use native.Mathlib.Omega.{arith}
 use lib.ListN.{length}
-use Rattle.lists.specs.Scan.{listOf}
+use Rattle.lists.specs.Scan.{tabulate}
 use Rattle.table.proofs.Long.{long}
 use Rattle.validity.specs.Validity.{tableOk}
 use Rattle.dispatcher.specs.Step.{answerOf}
@@ -28,7 +28,7 @@ passed : (c : tie.In-loop Inv-loop μ-loop) → tableOk (c .before .loop .table)
 passed c =
     let l = c .before .loop in
     let s = c .before .before .before .before in
-    rw (l .inv .2 .table) (run-passes (s .args .t) (listOf (eventAt (s .args .s .now)) (l .k)) (long (s .args .t) _ (s .good .0)) (s .pre .0))
+    rw (l .inv .2 .table) (run-passes (s .args .t) (tabulate (eventAt (s .args .s .now)) (l .k)) (long (s .args .t) _ (s .good .0)) (s .pre .0))
 
 -- its number is that of event k
 answered : (c : tie.After-number Inv-loop μ-loop)
