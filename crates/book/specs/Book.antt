@@ -9,13 +9,15 @@ use Rattle.endian.specs.Endian.{le16}
 use Rattle.isin.specs.Isin.{verdictOf}
 use Rattle.term.specs.Term.{termOf, termNumber}
 
--- "Bytes 0 and 1: machine count, 2 to 16. Bytes 2 and 3: entry count n, 0 to 64. Both are little-endian."
+-- "Bytes 0 and 1: machine count .. little-endian"
 abbrev pub machinesOf : List ℕ → ℕ
 machinesOf s = le16 s 0
 
+-- "Bytes 2 and 3: entry count n"
 abbrev pub entriesOf : List ℕ → ℕ
 entriesOf s = le16 s 2
 
+-- "machine count, 2 to 16"; "entry count n, 0 to 64"
 unfoldable pub sizesInRange : ℕ → ℕ → Bool
 sizesInRange machines entries = leb 2 machines && leb machines 16 && leb entries 64
 

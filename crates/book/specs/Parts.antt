@@ -23,9 +23,11 @@ IsSize at = (at ≡ 0) ⊎ (at ≡ 2)
 unfoldable pub sizeAt : List ℕ → ℕ → ℕ
 sizeAt s at = cond (eqb (bookVerdict s) 0) (le16 s at) 0
 
+-- the machine count of an accepted book
 abbrev pub machineCount : List ℕ → ℕ
 machineCount s = sizeAt s 0
 
+-- n of an accepted book
 abbrev pub entryCount : List ℕ → ℕ
 entryCount s = sizeAt s 2
 
@@ -43,6 +45,7 @@ identifierNumber s i =
 abbrev pub noBond : Bond
 noBond = record { periods = 0; terms = Zero (fin false 0 (pos 0)) }
 
+-- the bond that was read
 abbrev pub bondIn : Reading → Bond
 bondIn Faulty = noBond
 bondIn (Valid b) = b

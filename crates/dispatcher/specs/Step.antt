@@ -17,9 +17,11 @@ use Rattle.notice.specs.Notice.{noticeOf}
 abbrev pub codeOf : List ℕ → ℕ
 codeOf e = getD e 0 0
 
+-- a
 abbrev pub firstOf : List ℕ → ℕ
 firstOf e = getD e 1 0
 
+-- b
 abbrev pub secondOf : List ℕ → ℕ
 secondOf e = getD e 2 0
 

@@ -31,6 +31,7 @@ pub data Outcome : Type 0 where
 pub data Row : Type 0 where
   row : Outcome → Outcome → Row
 
+-- the two columns of a row
 abbrev pub givenIn : Row → Outcome
 givenIn (row g s) = g
 

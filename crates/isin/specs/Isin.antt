@@ -31,6 +31,7 @@ expanded (b ∷ bs) = digitsOf (valueOf b) (expanded bs)
 abbrev pub doubled : ℕ → ℕ
 doubled d = 2 * d / 10 + 2 * d % 10
 
+-- what a digit adds: doubled, or "as they are"
 abbrev pub weight : Bool → ℕ → ℕ
 weight twice d = cond twice (doubled d) d
 
@@ -45,6 +46,7 @@ unfolding twice
 added [] = 0
 added (d ∷ ds) = weight (twice ds) d + added ds
 
+-- the sum over the digits that characters are written as
 abbrev pub sumOf : List ℕ → ℕ
 sumOf s = added (expanded s)
 

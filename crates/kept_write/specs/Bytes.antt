@@ -36,6 +36,7 @@ abbrev pub casesBytes : ℕ → Terms → List ℕ
 casesBytes n (Zero y) = termsBytes 0 n 0 (toBits binary64 y)
 casesBytes n (Fixed c y) = termsBytes 1 n (toBits binary64 c) (toBits binary64 y)
 
+-- the 18 bytes of an entry's terms
 unfoldable pub bondBytes : Bond → List ℕ
 bondBytes b = casesBytes (b .periods) (b .terms)
 
@@ -79,5 +80,6 @@ fleetBytes t = machinesBytes (t .nodes) ++ t .told ++ t .pools
 unfoldable pub flightBytes : Table → List ℕ
 flightBytes t = (t .«in_flight» ∷ []) ++ messagesBytes (t .messages)
 
+-- all 5171 bytes
 unfoldable pub bytesOf : Table → List ℕ
 bytesOf t = entriesBytes t ++ fleetBytes t ++ flightBytes t

@@ -18,17 +18,19 @@ bookRefused n = numbered (ascii "book refused ") n
 unfoldable pub eventRefused : ℕ → ℕ → List ℕ
 eventRefused place n = ascii "event " ++ decimal place ++ numbered (ascii " refused ") n
 
--- "Then each entry prints a line: identifier, then "not admitted", "open replica" and the number, or "priced", 16 upper-case hexadecimal digits of the
--- bits, "replica" and the number."
+-- identifier, then "not admitted"
 unfoldable pub notAdmitted : List ℕ → List ℕ
 notAdmitted identifier = identifier ++ ascii " not admitted\n"
 
+-- identifier, then "open replica" and the number
 unfoldable pub openReplica : List ℕ → ℕ → List ℕ
 openReplica identifier replica = identifier ++ numbered (ascii " open replica ") replica
 
+-- identifier, then "priced", "16 upper-case hexadecimal digits of the bits, "replica" and the number"
 unfoldable pub priced : List ℕ → ℕ → ℕ → List ℕ
 priced identifier price replica = identifier ++ ascii " priced " ++ hex16 price ++ numbered (ascii " replica ") replica
 
+-- "Then each entry prints a line", by the state of its job
 unfoldable pub entryLine : List ℕ → Job → List ℕ
 entryLine identifier v =
     cond (eqb (v .state) 0) (notAdmitted identifier)

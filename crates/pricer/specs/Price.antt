@@ -36,6 +36,7 @@ unfoldable pub fixedAfter : Float → Float → ℕ → Float
 fixedAfter h d zero = hundred
 fixedAfter h d (suc n) = div binary64 (add binary64 (fixedAfter h d n) h) d
 
+-- a zero of n periods, by its yield
 abbrev pub zeroPrice : Float → ℕ → Float
 zeroPrice y n = zeroAfter (divisor y) n
 

@@ -13,6 +13,7 @@ use Rattle.pricer.specs.declared.Bond.{Bond}
 abbrev pub within : Float → Float → Float → Bool
 within lo hi x = le lo x && le x hi
 
+-- 0
 abbrev pub nought : Float
 nought = fin false 0 (pos 0)
 
@@ -20,13 +21,14 @@ nought = fin false 0 (pos 0)
 abbrev pub couponInRange : Float → Bool
 couponInRange c = within nought hundred c
 
--- "yield from 0 to 1"
+-- the ends of "yield from 0 to 1"
 abbrev pub lowestYield : Float
 lowestYield = nought
 
 abbrev pub highestYield : Float
 highestYield = one
 
+-- "yield from 0 to 1"
 abbrev pub yieldInRange : Float → Bool
 yieldInRange y = within lowestYield highestYield y
 

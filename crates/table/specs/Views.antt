@@ -77,7 +77,7 @@ messageAt t i = getD (t .messages) i noMessage
 unfoldable pub flight : Table → List Message
 flight t = take (t .«in_flight») (t .messages)
 
--- ---- the updates
+-- ---- the updates: t with another job j, machine m, cell of a pool, told flag, or messages, and all else as it was
 
 unfoldable pub withJob : Table → ℕ → Job → Table
 withJob t j v = record { machines = t .machines; entries = t .entries; bonds = t .bonds; jobs = set (t .jobs) j v; nodes = t .nodes; told = t .told; pools = t .pools; «in_flight» = t .«in_flight»; messages = t .messages }

@@ -54,6 +54,7 @@ nodesOk t b = all (λ m. nodeOk (t .machines) (t .entries) b m (nodeAt t m)) 16
 unfoldable pub poolRow : Table → ℕ → ℕ → Bool
 poolRow t b m = all (λ j. cellOk (t .entries) b (nodeAt t m .alive) j (poolAt t m j)) 64
 
+-- the pools of all machines
 unfoldable pub poolsOk : Table → ℕ → Bool
 poolsOk t b = all (poolRow t b) 16
 
@@ -69,6 +70,7 @@ rootOk t = eqb (nodeAt t 0 .alive) 1
 unfoldable pub toldRow : Table → ℕ → Bool
 toldRow t m = all (λ d. toldOk (t .machines) (nodeAt t d .alive) m d (toldAt t m d)) 16
 
+-- what all machines have been told
 unfoldable pub toldsOk : Table → Bool
 toldsOk t = all (toldRow t) 16
 
