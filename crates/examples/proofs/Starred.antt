@@ -21,7 +21,7 @@ use Rattle.table.specs.Parts.{pieces, copyIs, reserves, returned, message, resu
 use Rattle.table.proofs.Views.{Sized}
 use Rattle.validity.specs.Validity.{tableOk}
 use Rattle.opening.specs.Opening.{blank, bondsOf, nodesOf, freshOf, openOf}
-use Rattle.opening.proofs.Shown.{sized-fresh, opened-number, opened-table}
+use Rattle.opening.proofs.Shown.{opened-number}
 use Rattle.victim_handlers.specs.VictimHandlers.{noWork, grant, onFish, onAuth, onDenied, onObsolete}
 use Rattle.thief_handlers.specs.ThiefHandlers.{onSchedule, onNoWork}
 use Rattle.root_handlers.specs.RootHandlers.{reply, onReq, onAck, onResult}
@@ -32,7 +32,7 @@ use Rattle.work.specs.Work.{started, startOf, finished, doneOf}
 use Rattle.notice.specs.Notice.{informed, unwaited, reclaimed, quieted, reissueOne, reissue, noticed, noticeOf}
 use Rattle.dispatcher.specs.Step.{formed as eventFormed, numbered, eventOf, answerOf, stepOf, runOf}
 use Rattle.dispatcher.proofs.Kept.{step-answer, step-sized, step-ok}
-use Rattle.fresh.proofs.Passes.{fresh-passes}
+use Rattle.fresh.proofs.Passes.{opened-passes, opened-sized}
 use Rattle.claims.specs.History.{answersOf}
 use Rattle.examples.specs.Rows.{bookWith, book, fresh, allAccepted, beforeReq, deadThief, beforeAck, lateAck, rows, given, stated}
 
@@ -90,17 +90,11 @@ accepted-book = refl
 
 -- the table opened from the book passes check 9, so its runs are those without it
 
-fresh-sized : Sized fresh
-fresh-sized = rw (opened-table book accepted-book) (sized-fresh book)
-
-fresh-valid : tableOk fresh ≡ true
-fresh-valid = rw (opened-table book accepted-book) (fresh-passes book accepted-book)
-
 ran : (es : List (List ℕ)) → runOf fresh es ≡ plainRun fresh es
-ran es = run-plain fresh es fresh-sized fresh-valid
+ran es = run-plain fresh es (opened-sized book accepted-book) (opened-passes book accepted-book)
 
 answered : (es : List (List ℕ)) → answersOf fresh es ≡ plainAnswers fresh es
-answered es = answers-plain fresh es fresh-sized fresh-valid
+answered es = answers-plain fresh es (opened-sized book accepted-book) (opened-passes book accepted-book)
 
 -- ---- the dead thief
 

@@ -14,12 +14,13 @@ use Rattle.book.specs.Book.{bookVerdict}
 use Rattle.book.specs.Parts.{machineCount, entryCount, noBond, bondAt, bondOf}
 use Rattle.book.proofs.Accepted.{accepted, accepted-size, entry, bond-below, bond-past}
 use Rattle.table.specs.Views.{nodeAt}
+use Rattle.table.proofs.Views.{Sized}
 use Rattle.elements.specs.Elements.{emptyBond, bondOk, nodeOk}
 use Rattle.validity.specs.Validity.{bound, tableOk}
 use Rattle.preservation.proofs.Ok.{Ok, passes}
-use Rattle.opening.specs.Opening.{blank, freshOf, noTable}
+use Rattle.opening.specs.Opening.{blank, freshOf, noTable, openOf}
 use Rattle.opening.proofs.Counts.{machines-most, entries-most}
-use Rattle.opening.proofs.Shown.{sized-fresh, machines-fresh, entries-fresh, used-fresh, bond-fresh, job-fresh, node-fresh, node-past, told-fresh, pool-fresh, flight-fresh, padded-fresh}
+use Rattle.opening.proofs.Shown.{sized-fresh, machines-fresh, entries-fresh, used-fresh, bond-fresh, job-fresh, node-fresh, node-past, told-fresh, pool-fresh, flight-fresh, padded-fresh, opened-table}
 
 no-bond-empty : emptyBond noBond ≡ true
 unfolding toBits
@@ -64,6 +65,13 @@ module _ (s : List ℕ) (e : bookVerdict s ≡ 0) where
 
   pub fresh-passes : tableOk (freshOf s) ≡ true
   fresh-passes = passes (freshOf s) (sized-fresh s) fresh-ok
+
+  -- of the table as it is opened
+  pub opened-passes : tableOk (openOf s .table) ≡ true
+  opened-passes = rw (opened-table s e) fresh-passes
+
+  pub opened-sized : Sized (openOf s .table)
+  opened-sized = rw (opened-table s e) (sized-fresh s)
 
 -- its machine count is outside its range
 pub no-table-fails : tableOk noTable ≡ false

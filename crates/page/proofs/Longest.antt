@@ -1,6 +1,6 @@
 -- How long the lines of a page are at most, and the page itself: length (pageOf book events) ≤ 463,072. Assumes nothing.
 use Prim.Native.Nat.{ℕ, _+_, _*_, _≤_, _<_}
-use mathlib.Core.Path.{_≡_}
+use mathlib.Core.Path.{_≡_, sym, _∙_}
 use mathlib.Core.Bool.{true}
 use mathlib.Core.List.{List, []}
 use native.Mathlib.Omega.{arith}
@@ -13,7 +13,7 @@ use Rattle.text.specs.Text.{joined}
 use Rattle.text.proofs.Over.{joined-most}
 use Rattle.lines.specs.Lines.{entryLine}
 use Rattle.lines.proofs.Longest.{book-most, entry-most}
-use Rattle.book.specs.Book.{identifierAt}
+use Rattle.book.specs.Book.{identifierAt, bookVerdict}
 use Rattle.book.specs.Parts.{entryCount, identifierOf}
 use Rattle.table.specs.declared.Table.{Table}
 use Rattle.table.specs.Views.{jobAt}
@@ -28,7 +28,9 @@ use Rattle.dispatcher.proofs.Kept.{run-ok, run-sized}
 use Rattle.run.specs.Run.{eventAt, eventCount, eventsIn, refusalsOf}
 use Rattle.run.proofs.Turns.{refusals-most}
 use Rattle.page.specs.Page.{eventsOf, entriesText, runText, pageOf, longest}
-use Rattle.page.proofs.Opened.{number-small, opened-passes, opened-sized}
+use Rattle.opening.proofs.Shown.{opened-number}
+use Rattle.fresh.proofs.Passes.{opened-passes, opened-sized}
+use Rattle.page.proofs.Opened.{number-small}
 
 pub identifier-most : (book : List ℕ) (i : ℕ) → length (identifierOf book i) ≤ 12
 unfolding identifierOf identifierAt
@@ -82,7 +84,7 @@ unfolding pageOf eventsOf
 page-most book events =
     byBool (eqb (openOf book .number) 0)
     (λ e.
-    let n : openOf book .number ≡ 0 = eqb-true _ _ e in
+    let v : bookVerdict book ≡ 0 = sym (opened-number book) ∙ eqb-true _ _ e in
     let l : length (take 60000 events) ≤ 60000 = omega (arith, length-take 60000 events) in
-    rw (e, pageOf) (run-most book (openOf book .table) (take 60000 events) (opened-sized book n) (opened-passes book n) l))
+    rw (e, pageOf) (run-most book (openOf book .table) (take 60000 events) (opened-sized book v) (opened-passes book v) l))
     (λ e. let m = book-most (openOf book .number) (omega (arith, number-small book)) in rw (e, pageOf) (omega arith))

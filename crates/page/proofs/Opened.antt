@@ -1,6 +1,5 @@
--- What opening a book gives the page: a number of one digit, and for an accepted book a table that passes check 9. Assumes nothing.
+-- What opening a book gives the page: a number of one digit. Assumes nothing.
 use Prim.Native.Nat.{ℕ, _+_, _*_, _%_, _≤_}
-use mathlib.Core.Path.{_≡_, sym, ap, _∙_}
 use mathlib.Core.Bool.{Bool, true, false, not, cond}
 use mathlib.Core.List.{List}
 use native.Mathlib.Omega.{arith}
@@ -11,11 +10,8 @@ use Rattle.term.specs.Term.{termOf, termNumber}
 use Rattle.term.specs.declared.Reading.{Reading}
 use Rattle.term.specs.declared.Reading.the-variants.{Faulty, Valid}
 use Rattle.book.specs.Book.{machinesOf, entriesOf, sizesInRange, identifierAt, termAt, repeated, faultAt, lowestFaulty, lowestFault, bookVerdict}
-use Rattle.table.proofs.Views.{Sized}
-use Rattle.validity.specs.Validity.{tableOk}
 use Rattle.opening.specs.Opening.{openOf}
-use Rattle.opening.proofs.Shown.{sized-fresh, opened-number, opened-table}
-use Rattle.fresh.proofs.Passes.{fresh-passes}
+use Rattle.opening.proofs.Shown.{opened-number}
 
 -- ---- the numbers of a book
 
@@ -50,12 +46,5 @@ verdict-small s =
 
 -- ---- opening it
 
-module _ (s : List ℕ) where
-  pub number-small : openOf s .number ≤ 7
-  number-small = rw (opened-number s) (verdict-small s)
-
-  pub opened-passes : openOf s .number ≡ 0 → tableOk (openOf s .table) ≡ true
-  opened-passes e = let v = sym (opened-number s) ∙ e in ap tableOk (opened-table s v) ∙ fresh-passes s v
-
-  pub opened-sized : openOf s .number ≡ 0 → Sized (openOf s .table)
-  opened-sized e = rw (opened-table s (sym (opened-number s) ∙ e)) (sized-fresh s)
+pub number-small : (s : List ℕ) → openOf s .number ≤ 7
+number-small s = rw (opened-number s) (verdict-small s)
