@@ -26,7 +26,7 @@ notAdmitted identifier = identifier ++ ascii " not admitted\n"
 unfoldable pub openReplica : List ℕ → ℕ → List ℕ
 openReplica identifier replica = identifier ++ numbered (ascii " open replica ") replica
 
--- identifier, then "priced", "16 upper-case hexadecimal digits of the bits, "replica" and the number"
+-- identifier, then "priced", 16 upper-case hexadecimal digits of the bits, "replica" and the number
 unfoldable pub priced : List ℕ → ℕ → ℕ → List ℕ
 priced identifier price replica = identifier ++ ascii " priced " ++ hex16 price ++ numbered (ascii " replica ") replica
 
