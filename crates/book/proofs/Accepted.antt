@@ -6,7 +6,7 @@ use mathlib.Core.Logic.{_≢_, _⊎_, ⊎-elim}
 use mathlib.Core.List.{List, []}
 use Prim.Native.Nat.{ℕ, suc, _+_, _*_, _≤_, _<_}
 use native.Mathlib.Omega.{arith}
-use borrow.Author.Tests.{ltb-true, ltb-false, leb-true, eqb-true, eqb-false, ne-eqb, lt-ltb, le-ltb, not-false}
+use borrow.Author.Tests.{ltb-true, ltb-false, leb-true, eqb-true, eqb-false, eq-eqb, ne-eqb, lt-ltb, le-ltb, not-false}
 use lib.Dec.{leb, ltb, eqb}
 use lib.ListN.{length}
 use Rattle.lists.specs.Scan.{all, least}
@@ -22,7 +22,7 @@ use Rattle.term.proofs.Ranged.{read-in-range}
 use Rattle.term.specs.declared.Reading.{Reading}
 use Rattle.term.specs.declared.Reading.the-variants.{Faulty, Valid}
 use Rattle.book.specs.Book.{machinesOf, entriesOf, sizesInRange, identifierAt, termAt, same, repeated, faultAt, lowestFaulty, lowestFault, bookVerdict}
-use Rattle.book.specs.Parts.{IsSize, sizeAt, entryCount, identifierOf, noBond, bondIn, bondAt, bondOf}
+use Rattle.book.specs.Parts.{IsSize, sizeAt, entryCount, identifierOf, identifierNumber, noBond, bondIn, bondAt, bondOf}
 use Rattle.book.proofs.Rests.{same-itself}
 use Rattle.book.proofs.Faults.{isFaulty, differs}
 
@@ -165,6 +165,22 @@ module _ (s : List ℕ) (i : ℕ) where
   pub identifier-past : entryCount s ≤ i → [] ≡ identifierOf s i
   unfolding identifierOf
   identifier-past h = rw (le-ltb i (entryCount s) h)
+
+  -- a faulty book has no entry
+  pub identifier-refused : bookVerdict s ≢ 0 → [] ≡ identifierOf s i
+  identifier-refused h = identifier-past (omega (arith, refused-size s 2 h))
+
+  pub number-refused : bookVerdict s ≢ 0 → bookVerdict s ≡ identifierNumber s i
+  unfolding identifierNumber
+  number-refused h = rw (ne-eqb (bookVerdict s) 0 h)
+
+  pub number-past : bookVerdict s ≡ 0 → entryCount s ≤ i → 11 ≡ identifierNumber s i
+  unfolding identifierNumber
+  number-past e h = rw (eq-eqb (bookVerdict s) 0 e, le-ltb i (entryCount s) h)
+
+  pub number-below : i < entryCount s → 0 ≡ identifierNumber s i
+  unfolding identifierNumber
+  number-below h = rw (eq-eqb (bookVerdict s) 0 (has-entry s i h), lt-ltb i (entryCount s) h)
 
   pub bond-below : i < entryCount s → bondAt s (entryCount s) i ≡ bondOf s i
   unfolding bondOf

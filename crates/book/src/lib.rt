@@ -3,6 +3,7 @@ use pricer::Bond;
 use pricer::Terms;
 use term::Reading;
 ghost use mathlib.Core.Path.{_≡_};
+ghost use mathlib.Core.List.{[]};
 ghost use Prim.Native.Nat.{_+_, _*_, _≤_, _<_};
 ghost use lib.ListN.{length};
 ghost use Rattle.book.specs.Book.{identifierAt, same, repeated, faultAt, lowestFault, sizesInRange, bookVerdict};
@@ -146,24 +147,30 @@ pub fn identifier_at(s: &[u8], i: usize) -> &[u8]
     &s[a..end]
 }
 
-// The identifier of entry i, as that part of the book; the empty part for a faulty book or an entry number of n or more.
-pub fn identifier(s: &[u8], i: usize) -> &[u8]
-    ensures { λ r. ⌜ now r ≡ identifierOf (now (s .entry)) i ⌝ }
+// No byte of the book.
+fn empty_part(s: &[u8]) -> &[u8]
+    ensures { λ r. ⌜ now r ≡ [] ⌝ }
 {
-    let n = entries(s) as usize;
-    if i < n { identifier_at(s, i) } else { &s[0..0] }
+    &s[0..0]
 }
 
-// The number that goes with that part: the faulty book's own, 11 for an entry number of n or more, or 0.
-pub fn identifier_number(s: &[u8], i: usize) -> u8
-    ensures { λ r. ⌜ r ≡ identifierNumber (now (s .entry)) i ⌝ }
+// The identifier of entry i, as that part of the book, and 0; the empty part with the number of a faulty book, and with 11 for an entry number of n or more.
+pub fn identifier<'a>(s: &'a [u8], i: usize, number: &mut u8) -> &'a [u8]
+    ensures { λ r. ⌜ now r ≡ identifierOf (now (s .entry)) i ⌝ }
+    ensures { λ _. ⌜ now (number .exit) ≡ identifierNumber (now (s .entry)) i ⌝ }
 {
     let v = verdict(s);
     if v != 0 {
-        return v;
+        *number = v;
+        return empty_part(s);
     }
     let n = entries(s) as usize;
-    if i < n { 0 } else { 11 }
+    if n <= i {
+        *number = 11;
+        return empty_part(s);
+    }
+    *number = 0;
+    identifier_at(s, i)
 }
 
 // The bond of a term that was read; what stands where there is none has no periods and a zero's terms, all bits clear.

@@ -42,13 +42,15 @@ fn entry_agrees(book: &[u8], question: &[u8]) -> bool
     requires { ⌜ length (now question) ≡ 25 ⌝ }
 {
     let i = endian::u32_at(question, 0) as usize;
-    if book::identifier_number(book, i) != question[4] {
+    let mut number: u8 = 0;
+    let identifier = book::identifier(book, i, &mut number);
+    if number != question[4] {
         return false;
     }
-    if question[4] != 0 {
-        return check::same(book::identifier(book, i), &question[5..5]);
+    if number != 0 {
+        return check::same(identifier, &question[5..5]);
     }
-    check::same(book::identifier(book, i), &question[5..17])
+    check::same(identifier, &question[5..17])
         & (pricer::price_bits(book::bond(book, i)) == endian::u64_at(question, 17))
 }
 

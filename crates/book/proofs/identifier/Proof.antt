@@ -1,15 +1,32 @@
--- `book::identifier` meets its contract: a book with an entry is accepted, and so its identifiers are whole. Assumes nothing.
-use Prim.Native.Nat.{_<_}
-use mathlib.Core.Path.{_∙_}
+-- `book::identifier` meets its contract: a faulty book has no entry, and the identifiers of an accepted one are whole. Assumes nothing.
+use Prim.Native.Nat.{_≤_, _<_}
+use mathlib.Core.Path.{_≡_, sym, _∙_}
+use mathlib.Core.Logic.{_≢_}
 use denote.Ref.{now}
+use Rattle.book.specs.Book.{bookVerdict}
 use Rattle.book.specs.Parts.{entryCount}
-use Rattle.book.proofs.Accepted.{identifier-whole, identifier-below, identifier-past}
+use Rattle.book.proofs.Accepted.{identifier-whole, identifier-below, identifier-past, identifier-refused, number-refused, number-past, number-below}
 use borrow.Author.Needs.{needs}
 use Rattle.book.proofs.identifier.Statement.{statement}
 use Rattle.book.proofs.identifier.Tie as tie
 
-below : (c : tie.Then1) → c .before .before .before .args .i < entryCount (now (c .before .before .before .args .s))
-below c = rw (c .before .entries .ensures) at (c .if1 .taken)
+refused : (c : tie.Then1) → bookVerdict (now (c .before .before .before .args .s)) ≢ 0
+refused c = λ e. c .if1 .taken (c .before .verdict .ensures ∙ e)
+
+past : (c : tie.Then2) → entryCount (now (c .before .before .before .before .before .args .s)) ≤ c .before .before .before .before .before .args .i
+past c = rw (c .before .entries .ensures) at (c .if2 .taken)
+
+below : (c : tie.Else2) → c .before .before .before .before .before .args .i < entryCount (now (c .before .before .before .before .before .args .s))
+below c = rw (c .before .entries .ensures) at (c .if2 .left)
+
+verdict-requires : tie.Need-verdict-requires
+verdict-requires c κs = search needs
+
+empty-part-requires : tie.Need-empty-part-requires
+empty-part-requires c κs = search needs
+
+returns : tie.Need-returns
+returns c = (c .empty-part .ensures ∙ identifier-refused _ _ (refused (c .before)), c .before .before .verdict .ensures ∙ number-refused _ _ (refused (c .before)))
 
 entries-requires : tie.Need-entries-requires
 entries-requires c κs = search needs
@@ -17,33 +34,30 @@ entries-requires c κs = search needs
 cast-n : tie.Need-cast-n
 cast-n c = search needs
 
+empty-part-requires-2 : tie.Need-empty-part-requires-2
+empty-part-requires-2 c κs = search needs
+
+returns-2 : tie.Need-returns-2
+returns-2 c =
+    let e = sym (c .before .before .before .before .verdict .ensures) ∙ c .before .before .before .if1 .left in
+    (c .empty-part2 .ensures ∙ identifier-past _ _ (past (c .before)), number-past _ _ e (past (c .before)))
+
 identifier-at-requires : tie.Need-identifier-at-requires
 identifier-at-requires c κs = identifier-whole _ _ (below c)
 
-sub-result : tie.Need-sub-result
-sub-result c = search needs
-
-part-result-start : tie.Need-part-result-start
-part-result-start c = search needs
-
-part-result-end : tie.Need-part-result-end
-part-result-end c = search needs
-
-returns : tie.Need-returns
-returns c = c .identifier-at .ensures ∙ identifier-below _ _ (below (c .before))
-
-returns-2 : tie.Need-returns-2
-returns-2 c = identifier-past _ _ (rw (c .before .before .entries .ensures) at (c .before .if1 .left))
+returns-3 : tie.Need-returns-3
+returns-3 c = (c .identifier-at .ensures ∙ identifier-below _ _ (below (c .before)), number-below _ _ (below (c .before)))
 
 pub identifier-spec : {M : Type 1} → statement M
 identifier-spec =
     tie.close
     (tie.spec
+    verdict-requires
+    empty-part-requires
+    returns
     entries-requires
     cast-n
+    empty-part-requires-2
+    returns-2
     identifier-at-requires
-    sub-result
-    part-result-start
-    part-result-end
-    returns
-    returns-2)
+    returns-3)
