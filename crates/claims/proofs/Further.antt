@@ -15,10 +15,10 @@ use Rattle.table.specs.declared.Table.{Table}
 use Rattle.table.specs.declared.Answer.{Answer}
 use Rattle.table.specs.Views.{jobAt}
 use Rattle.invariant.proofs.State.{Whole}
-use Rattle.dispatcher.specs.Step.{codeOf, stepOf, runOf}
+use Rattle.dispatcher.specs.Step.{stepOf, runOf, answersOf, isFurther}
 use Rattle.drain.proofs.Reach.{Accepted}
 use Rattle.drain.proofs.Drain.{drain}
-use Rattle.claims.specs.History.{answersOf, countOf, admits, resultsOf, stateAfter, isFurther, allFurther}
+use Rattle.claims.specs.History.{countOf, admits, resultsOf, stateAfter, allFurther}
 use Rattle.claims.specs.Claims.{Further}
 use Rattle.claims.proofs.Change.{job-past}
 use Rattle.claims.proofs.History.{settled, open-run}
@@ -32,7 +32,7 @@ all-zero t (e ∷ es) a = rw (a .1, all-zero (stepOf t e .table) es (a .2)) refl
 all-further : (t : Table) (es : List (List ℕ)) → Accepted t es → allFurther es ≡ true
 unfolding allFurther
 all-further t [] a = refl
-all-further t (e ∷ es) a = and-both (isFurther (codeOf e)) (allFurther es) (a .0) (all-further (stepOf t e .table) es (a .2))
+all-further t (e ∷ es) a = and-both (isFurther e) (allFurther es) (a .0) (all-further (stepOf t e .table) es (a .2))
 
 -- ---- an admitted job stays admitted
 

@@ -8,3 +8,4 @@ pub mod Shown
 pub mod Further
 pub mod Start
 pub mod Demand3
+pub mod Only

@@ -1,7 +1,7 @@
 -- Runs: a list of events after another, and what `Answered` says of an event wherever it stands in its list.
 -- Assumes nothing.
-use Prim.Native.Nat.{ℕ, _+_}
-use mathlib.Core.Path.{_≡_, refl, _∙_}
+use Prim.Native.Nat.{ℕ, suc, _+_}
+use mathlib.Core.Path.{_≡_, refl, ap, _∙_}
 use mathlib.Core.Logic.{_≢_}
 use mathlib.Core.Bool.{Bool, true, false, cond}
 use mathlib.Core.List.{List, [], _∷_, _++_}
@@ -9,11 +9,11 @@ use lib.ListN.{length, getD}
 use Rattle.table.specs.declared.Table.{Table}
 use Rattle.table.specs.declared.Answer.{Answer}
 use Rattle.preservation.proofs.Answers.{Valid}
-use Rattle.dispatcher.specs.Step.{stepOf, runOf}
+use Rattle.dispatcher.specs.Step.{stepOf, runOf, answersOf}
 use Rattle.dispatcher.proofs.Kept.{valid-passes, valid-run, step-answer}
 use Rattle.dispatcher.proofs.Nine.{answer-9}
 use Rattle.drain.proofs.Reach.{run-append}
-use Rattle.claims.specs.History.{answersOf, countOf, delivers, takenOff, resultsOf}
+use Rattle.claims.specs.History.{countOf, delivers, takenOff, resultsOf}
 use Rattle.claims.specs.Claims.{Answered}
 use Rattle.dispatcher.proofs.Events.{by-cases}
 
@@ -21,7 +21,12 @@ pub run-more : (t : Table) (e : List ℕ) (es : List (List ℕ)) → runOf t (e 
 unfolding runOf
 run-more t e es = refl
 
-answer-at : (t : Table) (es : List (List ℕ)) (e : List ℕ) (fs : List (List ℕ)) → getD (answersOf t (es ++ e ∷ fs)) (length es) 0 ≡ stepOf (runOf t es) e .number
+pub answers-length : (t : Table) (es : List (List ℕ)) → length (answersOf t es) ≡ length es
+unfolding answersOf
+answers-length t [] = refl
+answers-length t (e ∷ es) = ap suc (answers-length (stepOf t e .table) es)
+
+pub answer-at : (t : Table) (es : List (List ℕ)) (e : List ℕ) (fs : List (List ℕ)) → getD (answersOf t (es ++ e ∷ fs)) (length es) 0 ≡ stepOf (runOf t es) e .number
 unfolding runOf answersOf
 answer-at t [] e fs = refl
 answer-at t (d ∷ es) e fs = answer-at (stepOf t d .table) es e fs
@@ -42,7 +47,7 @@ step-refused t e =
 step-valid : (t : Table) (e : List ℕ) → Valid t → stepOf t e .number ≢ 9
 step-valid t e v = rw (step-answer t e (valid-passes t v)) (answer-9 t e)
 
-pub answered : (t : Table) → Valid t → (front : List (List ℕ)) (e : List ℕ) (back : List (List ℕ)) → Answered t front e back
+pub answered : (t : Table) → Valid t → (front : List (List ℕ)) (e : List ℕ) (back : List (List ℕ)) → Answered t front e back (getD (answersOf t (front ++ e ∷ back)) (length front) 0)
 answered t v front e back = record {
   number = answer-at t front e back;
   next = run-append t front (e ∷ back) ∙ run-more (runOf t front) e back;

@@ -1,11 +1,13 @@
--- Demand 3: one claim about an accepted book and a whole list of events, each of them any list of bytes, run from the fresh table of the book. Its
--- sentences are quoted from the three demands (README.md, "What is proved"); what their words mean is document 01's "A run, and the words of demand 3".
--- It is stated over definitions alone; its proof is `demand-3` in proofs/Demand3.antt.
+-- Demand 3: one claim about an accepted book, a whole list of events, each of them any list of bytes, and what comes back when they are run from the fresh
+-- table of the book: the numbers that they are answered, and the table after them. Its sentences are quoted from the three demands (README.md, "What is
+-- proved"); what their words mean is document 01's "A run, and the words of demand 3". It is stated over definitions alone; its proof is `demand-3` in
+-- proofs/Demand3.antt, and that of the sentence on two runs `runs-agree` beside it.
 --
 --   openOf book .table      the fresh table of the book                       (opening)
 --   stepOf t e              the answer to event e on table t, and its table   (dispatcher)
 --   runOf t es              the table after the events es                     (dispatcher)
---   answersOf, countOf, admits, kills, finds, resultsOf, stateAfter, serialOf (History)
+--   answersOf t es          the numbers that they are answered                (dispatcher)
+--   countOf, admits, kills, finds, resultsOf, stateAfter, serialOf, allFurther (History)
 use Prim.Native.Nat.{ℕ, _+_, _≤_, _<_}
 use mathlib.Core.Path.{_≡_}
 use mathlib.Core.Logic.{_≢_}
@@ -18,13 +20,13 @@ use Rattle.table.specs.declared.Table.{Table}
 use Rattle.table.specs.declared.Answer.{Answer}
 use Rattle.table.specs.Views.{jobAt}
 use Rattle.opening.specs.Opening.{openOf}
-use Rattle.dispatcher.specs.Step.{stepOf, runOf}
-use Rattle.claims.specs.History.{answersOf, countOf, admits, kills, finds, resultsOf, stateAfter, serialOf, allFurther}
+use Rattle.dispatcher.specs.Step.{stepOf, runOf, answersOf}
+use Rattle.claims.specs.History.{countOf, admits, kills, finds, resultsOf, stateAfter, serialOf, allFurther}
 
--- "each event is answered as document 01 says", wherever it stands in the list
-pub record Answered (fresh : Table) (front : List (List ℕ)) (e : List ℕ) (back : List (List ℕ)) : Type 0 where
-  -- its answer in the run is that of one event on the table that the events before it left
-  pub number : getD (answersOf fresh (front ++ e ∷ back)) (length front) 0 ≡ stepOf (runOf fresh front) e .number
+-- "each event is answered as document 01 says", wherever it stands in the list: event e, which the run answered n
+pub record Answered (fresh : Table) (front : List (List ℕ)) (e : List ℕ) (back : List (List ℕ)) (n : ℕ) : Type 0 where
+  -- n is the answer to one event on the table that the events before it left
+  pub number : n ≡ stepOf (runOf fresh front) e .number
   -- the next event is given the table that it returned
   pub next : runOf fresh (front ++ e ∷ back) ≡ runOf (stepOf (runOf fresh front) e .table) back
   -- a refusal changes nothing
@@ -57,18 +59,28 @@ pub record Further (t : Table) : Type 0 where
   pub few : length events ≤ 879
   -- each returns 0
   pub accepted : answersOf t events ≡ replicate (length events) 0
+  -- each has three bytes, and is no admission, steal or death
   pub only : allFurther events ≡ true
   -- every bond that is admitted in t is priced after them
   pub priced : (j : ℕ) → jobAt t j .state ≢ 0 → jobAt (runOf t events) j .state ≡ 2
 
--- Demand 3 of a book and a list of events, by its sentences in their order
-pub record Demand3 (book : List ℕ) (events : List (List ℕ)) : Type 0 where
-  -- "each event is answered as document 01 says": every event e of the list, with the events before and after it
-  pub answers : (front : List (List ℕ)) (e : List ℕ) (back : List (List ℕ)) → events ≡ front ++ e ∷ back → Answered (openOf book .table) front e back
-  -- every bond of the book in the table after the list: its price, its replica number, and what they come from
-  pub shown : (j : ℕ) → j < entryCount book → Shown book (openOf book .table) events j (jobAt (runOf (openOf book .table) events) j)
+-- Demand 3 of a book, a list of events, the numbers that they were answered and the table after them, by its sentences in their order
+pub record Demand3 (book : List ℕ) (events : List (List ℕ)) (numbers : List ℕ) (table : Table) : Type 0 where
+  -- "each event is answered as document 01 says": a number for each, and every event e of the list, with the events before and after it
+  pub each : length numbers ≡ length events
+  pub answers : (front : List (List ℕ)) (e : List ℕ) (back : List (List ℕ)) → events ≡ front ++ e ∷ back
+      → Answered (openOf book .table) front e back (getD numbers (length front) 0)
+  -- the table is the one that the last event returned
+  pub returned : table ≡ runOf (openOf book .table) events
+  -- every bond of the book in it: its price, its replica number, and what they come from
+  pub shown : (j : ℕ) → j < entryCount book → Shown book (openOf book .table) events j (jobAt table j)
   -- "a priced bond stays priced at that price", whatever events follow
-  pub stays : (later : List (List ℕ)) (j : ℕ) → jobAt (runOf (openOf book .table) events) j .state ≡ 2
-      → jobAt (runOf (openOf book .table) (events ++ later)) j ≡ jobAt (runOf (openOf book .table) events) j
+  pub stays : (later : List (List ℕ)) (j : ℕ) → jobAt table j .state ≡ 2 → jobAt (runOf (openOf book .table) (events ++ later)) j ≡ jobAt table j
   -- the further events, from the table the run ended with
-  pub further : Further (runOf (openOf book .table) events)
+  pub further : Further table
+
+-- "So a bond priced in two such runs over one book has one price in both."
+pub record RunsAgree (book : List ℕ) : Type 0 where
+  pub price : (events others : List (List ℕ)) (j : ℕ) → j < entryCount book
+      → jobAt (runOf (openOf book .table) events) j .state ≡ 2 → jobAt (runOf (openOf book .table) others) j .state ≡ 2
+      → jobAt (runOf (openOf book .table) events) j .price ≡ jobAt (runOf (openOf book .table) others) j .price

@@ -1,7 +1,7 @@
 -- Document 01, "A run, and the words of demand 3": what a list of events did to a table, told from the answers and from the messages delivered along the
 -- run. t is the table that the first event is given; each later one is given the table that the event before it returned. Definitions only.
 use Prim.Native.Nat.{ℕ, zero, suc, _+_}
-use mathlib.Core.Bool.{Bool, true, cond, _&&_, _||_}
+use mathlib.Core.Bool.{Bool, true, cond, _&&_}
 use mathlib.Core.List.{List, [], _∷_}
 use lib.Dec.{eqb}
 use Rattle.lists.specs.Scan.{tabulate}
@@ -14,12 +14,7 @@ use Rattle.table.specs.Views.{jobAt, messageAt}
 use Rattle.table.specs.Messages.{oldest}
 use Rattle.table.specs.Parts.{RESULT}
 use Rattle.notice.specs.Notice.{lost}
-use Rattle.dispatcher.specs.Step.{codeOf, firstOf, secondOf, stepOf}
-
--- the numbers that the events are answered, in their order
-unfoldable pub answersOf : Table → List (List ℕ) → List ℕ
-answersOf t [] = []
-answersOf t (e ∷ es) = stepOf t e .number ∷ answersOf (stepOf t e .table) es
+use Rattle.dispatcher.specs.Step.{codeOf, firstOf, secondOf, stepOf, isFurther}
 
 -- "An accepted event returns 0."
 abbrev pub isAccepted : Table → List ℕ → Bool
@@ -67,11 +62,7 @@ stateAfter n (p ∷ ps) = 2
 unfoldable pub serialOf : List ℕ → List ℕ
 serialOf book = tabulate (λ i. priceBits (bondOf book i)) (entryCount book)
 
--- neither an admission (1), nor a steal (2), nor a death (6)
-abbrev pub isFurther : ℕ → Bool
-isFurther code = eqb code 3 || (eqb code 4 || (eqb code 5 || eqb code 7))
-
 -- "(no admission, steal or death)", of every event of a list
 unfoldable pub allFurther : List (List ℕ) → Bool
 allFurther [] = true
-allFurther (e ∷ es) = isFurther (codeOf e) && allFurther es
+allFurther (e ∷ es) = isFurther e && allFurther es

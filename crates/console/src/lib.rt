@@ -2,28 +2,49 @@
 // said on standard error, since a program has no exit status here.
 use libc::STDERR_FILENO;
 use libc::STDOUT_FILENO;
+ghost use Prim.Native.Nat.{_≤_};
+ghost use lib.ListN.{length};
 ghost use Rattle.io.specs.Counts.{Counts};
+ghost use Rattle.page.specs.Page.{longest};
 
-// Reads the file into buf as far as it goes, and answers how many bytes it read; a file that cannot be opened counts as empty.
+// Says on standard error why a file counts as empty.
+fn complain(name: &[u8], why: &[u8]) {
+    io::write_all(STDERR_FILENO, name);
+    io::write_all(STDERR_FILENO, why);
+}
+
+// Whether a read finds that the file has ended, and neither a byte more nor an error.
+fn ended(fd: i32) -> bool {
+    let mut next = [0u8; 1];
+    libc::read(fd, &mut next) == 0
+}
+
+// Reads the file into buf, as far as there is room, and answers how many bytes it read. A file that cannot be opened counts as empty, and so does one that
+// cannot be read to its end: no part of a list of events passes for the whole.
 fn load(name: &[u8], buf: &mut [u8]) -> usize
     ensures { λ r. ⌜ Counts r (now (buf .exit)) ⌝ }
 {
     let fd = os::open_read(name);
     if fd < 0 {
-        io::write_all(STDERR_FILENO, name);
-        io::write_all(STDERR_FILENO, b": cannot be opened, counts as empty\n");
+        complain(name, b": cannot be opened, counts as empty\n");
         return 0;
     }
     let n = io::read_full(fd, buf);
+    let whole = n == buf.len() || ended(fd);
     libc::close(fd);
-    n
+    if whole {
+        return n;
+    }
+    complain(name, b": cannot be read, counts as empty\n");
+    0
 }
 
 // Prints the page of a book and a list of events, by way of the buffer.
-fn print_from(book: &[u8], events: &[u8], out: &mut [u8]) {
-    let printed = promised::run_page(book, events, out);
-    let length = printed.length;
-    if !io::write_all(STDOUT_FILENO, &out[0..length]) {
+fn print_from(book: &[u8], events: &[u8], out: &mut [u8])
+    requires { ⌜ longest ≤ length (now out) ⌝ }
+{
+    let text = page::page_in(book, events, out);
+    if !io::write_all(STDOUT_FILENO, text) {
         io::write_all(STDERR_FILENO, b"the page could not be written whole\n");
     }
 }

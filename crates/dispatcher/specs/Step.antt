@@ -66,3 +66,12 @@ stepOf t e = cond (not (tableOk t)) (refuse 9 t) (answerOf t e)
 unfoldable pub runOf : Table → List (List ℕ) → Table
 runOf t [] = t
 runOf t (e ∷ es) = runOf (stepOf t e .table) es
+
+-- the numbers that the events are answered, in their order
+unfoldable pub answersOf : Table → List (List ℕ) → List ℕ
+answersOf t [] = []
+answersOf t (e ∷ es) = stepOf t e .number ∷ answersOf (stepOf t e .table) es
+
+-- "further .. events (no admission, steal or death)": three bytes, a Deliver, Start, Done or Notice
+abbrev pub isFurther : List ℕ → Bool
+isFurther e = eqb (length e) 3 && (eqb (codeOf e) 3 || (eqb (codeOf e) 4 || (eqb (codeOf e) 5 || eqb (codeOf e) 7)))

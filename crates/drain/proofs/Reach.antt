@@ -2,26 +2,21 @@
 -- from parts.
 -- Assumes nothing.
 use mathlib.Core.Path.{_≡_, refl, ap}
-use mathlib.Core.Bool.{Bool, true, _||_}
+use mathlib.Core.Bool.{true}
 use mathlib.Core.List.{List, [], _∷_, _++_}
 use Prim.Native.Nat.{ℕ, zero, suc, _+_, _*_, _≤_, _<_}
 use native.Mathlib.Omega.{arith}
 use native.Mathlib.Nat.{suc-mul}
-use lib.Dec.{eqb}
 use lib.ListN.{length, length-append}
 use Rattle.table.specs.declared.Table.{Table}
 use Rattle.table.specs.declared.Answer.{Answer}
 use Rattle.table.specs.Parts.{accept}
-use Rattle.dispatcher.specs.Step.{codeOf, stepOf, runOf}
+use Rattle.dispatcher.specs.Step.{stepOf, runOf, isFurther}
 
--- a Deliver, Start, Done or Notice
-abbrev pub further : List ℕ → Bool
-further e = eqb (codeOf e) 3 || (eqb (codeOf e) 4 || (eqb (codeOf e) 5 || eqb (codeOf e) 7))
-
--- each event is one of these and is answered 0
+-- each event is a further one and is answered 0
 abbrev pub Accepted : Table → List (List ℕ) → Type 0
 Accepted t [] = Unit {0}
-Accepted t (e ∷ es) = (further e ≡ true) × (stepOf t e .number ≡ 0) × Accepted (stepOf t e .table) es
+Accepted t (e ∷ es) = (isFurther e ≡ true) × (stepOf t e .number ≡ 0) × Accepted (stepOf t e .table) es
 
 pub record Reach (P : Table → Type 0) (t : Table) (n : ℕ) : Type 0 where
   pub events : List (List ℕ)
@@ -50,7 +45,7 @@ module _ (P : Table → Type 0) where
   reach-here t n p = record { events = []; few = omega arith; accepted = tt; there = p }
 
   -- an accepted event first
-  pub reach-step : (t u : Table) (e : List ℕ) (n : ℕ) → stepOf t e ≡ accept u → further e ≡ true → Reach P u n → Reach P t (suc n)
+  pub reach-step : (t u : Table) (e : List ℕ) (n : ℕ) → stepOf t e ≡ accept u → isFurther e ≡ true → Reach P u n → Reach P t (suc n)
   unfolding runOf
   reach-step t u e n s f r =
       let next : stepOf t e .table ≡ u = ap (λ (a : Answer). a .table) s in

@@ -29,10 +29,9 @@ use Rattle.events.specs.Events.{admitted, admitOf, delivered, deliverOf, died, 
 use Rattle.steal.specs.Steal.{stolen, stealOf}
 use Rattle.work.specs.Work.{started, startOf, finished, doneOf}
 use Rattle.notice.specs.Notice.{informed, unwaited, reclaimed, quieted, reissueOne, reissue, noticed, noticeOf}
-use Rattle.dispatcher.specs.Step.{formed as eventFormed, numbered, eventOf, answerOf, stepOf, runOf}
+use Rattle.dispatcher.specs.Step.{formed as eventFormed, numbered, eventOf, answerOf, stepOf, runOf, answersOf}
 use Rattle.dispatcher.proofs.Kept.{step-answer, step-sized, step-ok}
 use Rattle.fresh.proofs.Passes.{opened-passes, opened-sized}
-use Rattle.claims.specs.History.{answersOf}
 use Rattle.examples.specs.Rows.{bookWith, book, fresh, allAccepted, beforeReq, deadThief, beforeAck, lateAck, rows, given, stated}
 
 -- ---- what is computed, each group opened by one name

@@ -16,8 +16,7 @@ use Rattle.table.specs.declared.Answer.{Answer}
 use Rattle.table.specs.Views.{jobAt, toldAt, flight}
 use Rattle.table.specs.Parts.{opened, message, REQ, DENIED, ACK}
 use Rattle.opening.specs.Opening.{openOf}
-use Rattle.dispatcher.specs.Step.{runOf}
-use Rattle.claims.specs.History.{answersOf}
+use Rattle.dispatcher.specs.Step.{runOf, answersOf}
 
 -- what a row speaks of
 pub data Outcome : Type 0 where

@@ -1,3 +1,4 @@
 pub mod Longest
 pub mod Opened
 pub mod Pages
+pub mod Reports

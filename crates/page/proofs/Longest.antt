@@ -23,11 +23,11 @@ use Rattle.preservation.proofs.Ok.{ok}
 use Rattle.preservation.proofs.Passed.{facts}
 use Rattle.opening.specs.Opening.{openOf}
 use Rattle.opening.proofs.Counts as counts
-use Rattle.dispatcher.specs.Step.{runOf}
+use Rattle.dispatcher.specs.Step.{runOf, answersOf}
 use Rattle.dispatcher.proofs.Kept.{run-ok, run-sized}
-use Rattle.run.specs.Run.{eventAt, eventCount, eventsIn, refusalsOf}
+use Rattle.run.specs.Run.{eventAt, eventCount, eventsIn, refusals}
 use Rattle.run.proofs.Turns.{refusals-most}
-use Rattle.page.specs.Page.{eventsOf, entriesText, runText, pageOf, longest}
+use Rattle.page.specs.Page.{eventsOf, entriesText, runText, textFrom, pageOf, longest}
 use Rattle.opening.proofs.Shown.{opened-number}
 use Rattle.fresh.proofs.Passes.{opened-passes, opened-sized}
 use Rattle.page.proofs.Opened.{number-small}
@@ -61,20 +61,20 @@ module _ (book : List ℕ) (t : Table) (s : Sized t) (h : tableOk t ≡ true) wh
 
 -- ---- the events
 
-pub listed-most : (t : Table) (s : List ℕ) → length s ≤ 60000 → length (refusalsOf 1 t (eventsIn s)) ≤ 460000
+pub listed-most : (t : Table) (s : List ℕ) → length s ≤ 60000 → length (refusals 1 (answersOf t (eventsIn s))) ≤ 460000
 unfolding eventsIn
 listed-most t s h =
     omega (arith, refusals-most 1 t (eventsIn s), length-tabulate (eventAt s) 0 [] (eventCount s))
 
 -- ---- the page
 
-pub run-most : (book : List ℕ) (t : Table) (s : List ℕ) → Sized t → tableOk t ≡ true → length s ≤ 60000 → length (runText book t (eventsIn s)) ≤ longest
+pub run-most : (book : List ℕ) (t : Table) (s : List ℕ) → Sized t → tableOk t ≡ true → length s ≤ 60000 → length (textFrom book t (eventsIn s)) ≤ longest
 unfolding runText
 run-most book t s z h l =
     let es = eventsIn s in
     omega (
       arith,
-      length-append (refusalsOf 1 t es) (entriesText book (runOf t es)),
+      length-append (refusals 1 (answersOf t es)) (entriesText book (runOf t es)),
       listed-most t s l,
       entries-most book (runOf t es) (run-sized t es z) (run-ok t es z h),
     )

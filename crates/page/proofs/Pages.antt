@@ -19,10 +19,10 @@ use Rattle.table.specs.declared.Table.{Table}
 use Rattle.table.specs.Views.{jobAt}
 use Rattle.opening.specs.Opening.{freshOf, openOf}
 use Rattle.opening.proofs.Shown.{opened-number, opened-table}
-use Rattle.dispatcher.specs.Step.{runOf}
+use Rattle.dispatcher.specs.Step.{runOf, answersOf}
 use Rattle.run.specs.declared.Ran.{Ran}
-use Rattle.run.specs.Run.{eventsIn, refusalsOf, Listed}
-use Rattle.page.specs.Page.{eventsOf, entriesText, runText, pageOf, longest, bufferOf, printedOf}
+use Rattle.run.specs.Run.{eventsIn, refusals, Listed}
+use Rattle.page.specs.Page.{eventsOf, entriesText, runText, textFrom, pageOf, longest, bufferOf, printedOf}
 use Rattle.page.proofs.Longest.{lineOf, page-most}
 
 -- the number and the buffer that a page of r bytes leaves
@@ -60,7 +60,7 @@ module _ (book events : List ℕ) {d : List ℕ} {e : List ℕ} {r : ℕ} (n : �
       let m = q ∙ sym (opened-number book) in
       rw (ne-eqb (openOf book .number) 0 (λ z. h (m ∙ z)), pageOf) (rw m at w)
 
-  pub accepted-written : (t : Table) (s : List ℕ) → n ≡ 0 → t ≡ freshOf book → s ≡ take 60000 events → Written d 0 (runText book t (eventsIn s)) e r
+  pub accepted-written : (t : Table) (s : List ℕ) → n ≡ 0 → t ≡ freshOf book → s ≡ take 60000 events → Written d 0 (textFrom book t (eventsIn s)) e r
       → Written d 0 (pageOf book events) e r
   unfolding pageOf eventsOf
   accepted-written t s h f g w =
@@ -78,7 +78,7 @@ line-written book t i identifier q w = rw q at w
 
 -- the lines of the entries after those of the refused events
 pub run-written : (book : List ℕ) (t : Table) (es : List (List ℕ)) {d : List ℕ} {e : List ℕ} {f : List ℕ} {r : Ran} {n : ℕ}
-    → Listed d 0 (refusalsOf 1 t es) (runOf t es) e r → Written e (r .length) (entriesText book (r .table)) f n
-    → length (runText book t es) ≤ length d → Written d 0 (runText book t es) f n
+    → Listed d 0 (refusals 1 (answersOf t es)) (runOf t es) e r → Written e (r .length) (entriesText book (r .table)) f n
+    → length (textFrom book t es) ≤ length d → Written d 0 (textFrom book t es) f n
 unfolding runText
 run-written book t es p q h = then (p .lines) (rw (p .table) at q) (omega arith)

@@ -1,5 +1,6 @@
 -- Document 01, "The program's page": the text that is printed for a book and a list of events. Definitions only.
 use Prim.Native.Nat.{ℕ}
+use mathlib.Core.Path.{_≡_}
 use mathlib.Core.Bool.{true, false, cond}
 use mathlib.Core.List.{List, _++_}
 use lib.Dec.{eqb, ltb}
@@ -10,8 +11,9 @@ use Rattle.book.specs.Parts.{entryCount, identifierOf}
 use Rattle.table.specs.declared.Table.{Table}
 use Rattle.table.specs.Views.{jobAt}
 use Rattle.opening.specs.Opening.{openOf}
-use Rattle.dispatcher.specs.Step.{runOf}
-use Rattle.run.specs.Run.{eventsIn, refusalsOf}
+use Rattle.dispatcher.specs.Step.{runOf, answersOf}
+use Rattle.claims.specs.Claims.{Demand3}
+use Rattle.run.specs.Run.{eventsIn, refusals}
 use Rattle.page.specs.declared.Printed.{Printed}
 
 -- "events.bin (at most 60,000 bytes; later ones are not read)"
@@ -22,14 +24,19 @@ eventsOf file = eventsIn (take 60000 file)
 unfoldable pub entriesText : List ℕ → Table → List ℕ
 entriesText book t = joined (λ i. entryLine (identifierOf book i) (jobAt t i)) (entryCount book)
 
--- "Otherwise each refused event prints a line .. Then each entry prints a line": the events run from the table t, the first of them has place 1
-unfoldable pub runText : List ℕ → Table → List (List ℕ) → List ℕ
-runText book t events = refusalsOf 1 t events ++ entriesText book (runOf t events)
+-- "Otherwise each refused event prints a line .. Then each entry prints a line": by the numbers that the events were answered, from place 1 on, and by the
+-- table after them
+unfoldable pub runText : List ℕ → List ℕ → Table → List ℕ
+runText book numbers t = refusals 1 numbers ++ entriesText book t
+
+-- the text of the events run from the table t
+abbrev pub textFrom : List ℕ → Table → List (List ℕ) → List ℕ
+textFrom book t events = runText book (answersOf t events) (runOf t events)
 
 -- "A refused book prints "book refused" and the number, and nothing more. Otherwise .."
 unfoldable pub pageOf : List ℕ → List ℕ → List ℕ
 pageOf book events =
-    cond (eqb (openOf book .number) 0) (runText book (openOf book .table) (eventsOf events))
+    cond (eqb (openOf book .number) 0) (textFrom book (openOf book .table) (eventsOf events))
     (bookRefused (openOf book .number))
 
 -- no page is longer (proofs/Longest.antt): 20,000 events of at most 23 bytes each, 64 entries of at most 48
@@ -46,3 +53,11 @@ unfoldable pub printedOf : List ℕ → List ℕ → List ℕ → Printed
 printedOf book events out =
     cond (ltb (length out) longest) (record { written = false; length = 0 })
     (record { written = true; length = length (pageOf book events) })
+
+-- what a page of an accepted book is a page of: it tells numbers and a table, and of these demand 3 holds. They are what the run answered and returned
+-- (`each`, `answers` and `returned` of `Demand3`), so no other text is such a page.
+pub record Reported (book : List ℕ) (events : List (List ℕ)) (text : List ℕ) : Type 0 where
+  pub numbers : List ℕ
+  pub table : Table
+  pub told : text ≡ runText book numbers table
+  pub demand : Demand3 book events numbers table

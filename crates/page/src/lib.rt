@@ -4,9 +4,10 @@ ghost use mathlib.Core.Bool.{true};
 ghost use Prim.Native.Nat.{_+_, _≤_};
 ghost use lib.ListN.{length, take};
 ghost use Rattle.text.specs.Text.{Written};
+ghost use Rattle.book.specs.Book.{bookVerdict};
 ghost use Rattle.validity.specs.Validity.{tableOk};
 ghost use Rattle.run.specs.Run.{eventsIn};
-ghost use Rattle.page.specs.Page.{entriesText, runText, bufferOf, printedOf};
+ghost use Rattle.page.specs.Page.{eventsOf, entriesText, textFrom, pageOf, longest, bufferOf, printedOf, Reported};
 use table::Table;
 
 // No page is longer.
@@ -39,7 +40,7 @@ fn put_entries(book: &[u8], t: Table, out: &mut [u8], at: usize) -> usize
 fn put_run(book: &[u8], t: Table, events: &[u8], out: &mut [u8]) -> usize
     requires { ⌜ tableOk t ≡ true ⌝ }
     requires { ⌜ (length (now events) ≤ 60000) × (463072 ≤ length (now out)) ⌝ }
-    ensures { λ r. ⌜ Written (now (out .entry)) 0 (runText (now (book .entry)) t (eventsIn (now (events .entry)))) (now (out .exit)) r ⌝ }
+    ensures { λ r. ⌜ Written (now (out .entry)) 0 (textFrom (now (book .entry)) t (eventsIn (now (events .entry)))) (now (out .exit)) r ⌝ }
 {
     let ran = run::run(t, events, out);
     let u = ran.table;
@@ -57,10 +58,12 @@ fn first_bytes(events: &[u8]) -> &[u8]
     &events[0..60000]
 }
 
-// Writes the page of a book and a list of events to the front of the buffer, which is refused and left unchanged where it is shorter than LONGEST.
+// Writes the page of a book and a list of events to the front of the buffer, which is refused and left unchanged where it is shorter than LONGEST. What is
+// written for an accepted book tells a run of which demand 3 holds.
 pub fn page(book: &[u8], events: &[u8], out: &mut [u8]) -> Printed
     ensures { λ r. ⌜ r ≡ printedOf (now (book .entry)) (now (events .entry)) (now (out .entry)) ⌝ }
     ensures { λ _. ⌜ now (out .exit) ≡ bufferOf (now (book .entry)) (now (events .entry)) (now (out .entry)) ⌝ }
+    ensures { λ r. ⌜ (bookVerdict (now (book .entry)) ≡ 0 → r .written ≡ true → Reported (now (book .entry)) (eventsOf (now (events .entry))) (take (r .length) (now (out .exit)))) ⌝ }
 {
     if out.len() < LONGEST {
         return Printed {
@@ -82,4 +85,14 @@ pub fn page(book: &[u8], events: &[u8], out: &mut [u8]) -> Printed
         written: true,
         length: end,
     }
+}
+
+// The page, as the part of the buffer that it was written to. The buffer has room for every page.
+pub fn page_in<'a>(book: &[u8], events: &[u8], out: &'a mut [u8]) -> &'a mut [u8]
+    requires { ⌜ longest ≤ length (now out) ⌝ }
+    ensures { λ r. ⌜ now r ≡ pageOf (now (book .entry)) (now (events .entry)) ⌝ }
+{
+    let printed = page(book, events, out);
+    let length = printed.length;
+    &mut out[0..length]
 }

@@ -1,13 +1,14 @@
 // The C interface: what a program in C or Rust calls of Rakhvide, under the names that include/rakhvide.h declares.
 // Each function is one of the crates below under a plain name; no function asks anything of its numbers or bytes.
 ghost use mathlib.Core.Path.{_≡_};
+ghost use mathlib.Core.Bool.{true};
+ghost use lib.ListN.{take};
 ghost use lib.Ieee.{binary64, toBits};
 ghost use Rattle.isin.specs.Isin.{verdictOf};
 ghost use Rattle.pricer.specs.Price.{zeroPrice, fixedPrice};
 ghost use Rattle.term.specs.Term.{termOf, termNumber};
 ghost use Rattle.book.specs.Book.{bookVerdict};
-ghost use Rattle.page.specs.Page.{eventsOf, printedOf, bufferOf};
-ghost use Rattle.claims.specs.Claims.{Demand3};
+ghost use Rattle.page.specs.Page.{eventsOf, printedOf, bufferOf, Reported};
 ghost use Rattle.kept.specs.Kept.{checkOf, stepNumber, stepBytes, openNumber, openBytes};
 ghost use Rattle.rakhvide_c.specs.Terms.{termBits};
 use pricer::FixedBond;
@@ -80,7 +81,8 @@ pub extern "C" fn rakhvide_price_fixed(periods: u8, coupon: f64, ytm: f64) -> u6
     }))
 }
 
-// Runs the events on the fresh table of the book, and writes the page to the front of the buffer; of a buffer that is too short, nothing changes.
+// Runs the events on the fresh table of the book, and writes the page to the front of the buffer and its length. A buffer that is too short is left as it
+// is, and the length is 0. What is written for an accepted book tells a run of which demand 3 holds.
 #[no_mangle]
 pub extern "C" fn rakhvide_page(
     book: &[u8],
@@ -91,9 +93,9 @@ pub extern "C" fn rakhvide_page(
     ensures { λ r. ⌜ r ≡ printedOf (now (book .entry)) (now (events .entry)) (now (out .entry)) .written ⌝ }
     ensures { λ _. ⌜ now (length .exit) ≡ printedOf (now (book .entry)) (now (events .entry)) (now (out .entry)) .length ⌝ }
     ensures { λ _. ⌜ now (out .exit) ≡ bufferOf (now (book .entry)) (now (events .entry)) (now (out .entry)) ⌝ }
-    ensures { λ _. ⌜ (bookVerdict (now (book .entry)) ≡ 0 → Demand3 (now (book .entry)) (eventsOf (now (events .entry)))) ⌝ }
+    ensures { λ r. ⌜ (bookVerdict (now (book .entry)) ≡ 0 → r ≡ true → Reported (now (book .entry)) (eventsOf (now (events .entry))) (take (now (length .exit)) (now (out .exit)))) ⌝ }
 {
-    let printed = promised::run_page(book, events, out);
+    let printed = page::page(book, events, out);
     *length = printed.length;
     printed.written
 }

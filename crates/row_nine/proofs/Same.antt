@@ -35,8 +35,9 @@ module _ (t : Table) (r : RowNine t) where
   sizes =
       let c = r .counts in
       and-both (leb 2 (t .machines) && leb (t .machines) 16 && leb (t .entries) 64) (leb (t .«in_flight») 128)
-      (and-three (leb 2 (t .machines)) (leb (t .machines) 16) (leb (t .entries) 64) (le-leb _ _ (c .machines-least)) (le-leb _ _ (c .machines-most)) (le-leb _ _ (c .entries-most)))
-      (le-leb _ _ (c .messages-most))
+      (and-three (leb 2 (t .machines)) (leb (t .machines) 16) (leb (t .entries) 64) (le-leb 2 (t .machines) (omega (arith, c .machines-least)))
+      (le-leb (t .machines) 16 (omega (arith, c .machines-most))) (le-leb (t .entries) 64 (omega (arith, c .entries-most))))
+      (le-leb (t .«in_flight») 128 (omega (arith, c .messages-most)))
 
   bond : (j : ℕ) → j < 64 → bondOk (t .entries) j (bondAt t j) ≡ true
   bond j h =
@@ -245,7 +246,12 @@ module _ (t : Table) (s : Sized t) (e : tableOk t ≡ true) where
 
   pub needed : RowNine t
   needed = record {
-    counts = record { machines-least = f .machines-some; machines-most = f .machines-most; entries-most = f .entries-most; messages-most = f .used-most };
+    counts = record {
+      machines-least = omega (arith, f .machines-some);
+      machines-most = omega (arith, f .machines-most);
+      entries-most = omega (arith, f .entries-most);
+      messages-most = omega (arith, f .used-most);
+    };
     numbers = numbers;
     states = states;
     terms = λ j h l. let c = o .bond j h in rw (lt-ltb j (t .entries) l) at c;

@@ -17,13 +17,13 @@ use Rattle.lines.proofs.Longest.{event-most}
 use Rattle.table.specs.declared.Table.{Table}
 use Rattle.table.specs.declared.Answer.{Answer}
 use Rattle.validity.specs.Validity.{tableOk}
-use Rattle.dispatcher.specs.Step.{answerOf, stepOf, runOf}
+use Rattle.dispatcher.specs.Step.{answerOf, stepOf, runOf, answersOf}
 use Rattle.dispatcher.proofs.Accepted.{answer-refused}
 use Rattle.dispatcher.proofs.Kept.{step-answer}
 use Rattle.text.specs.Text.{Written}
 use Rattle.text.proofs.Over.{over-none, then}
 use Rattle.run.specs.declared.Ran.{Ran}
-use Rattle.run.specs.Run.{eventAt, eventCount, eventsIn, refusal, refusalsOf, Listed}
+use Rattle.run.specs.Run.{eventAt, eventCount, eventsIn, refusal, refusals, Listed}
 use Rattle.run.proofs.Numbers.{number-most}
 
 -- ---- the line of one event
@@ -64,35 +64,35 @@ run-more t [] e = refl
 run-more t (d ∷ es) e = run-more (stepOf t d .table) es e
 
 pub refusals-more : (place : ℕ) (t : Table) (es : List (List ℕ)) (e : List ℕ)
-    → refusalsOf place t (es ++ (e ∷ [])) ≡ refusalsOf place t es ++ refusal (place + length es) (stepOf (runOf t es) e .number)
-unfolding refusalsOf runOf
+    → refusals place (answersOf t (es ++ (e ∷ []))) ≡ refusals place (answersOf t es) ++ refusal (place + length es) (stepOf (runOf t es) e .number)
+unfolding refusals answersOf runOf
 refusals-more place t [] e = append-nil (refusal place (stepOf t e .number)) ∙ ap (λ (k : ℕ). refusal k (stepOf t e .number)) (sym (add-zero place))
 refusals-more place t (d ∷ es) e =
     let r = refusal place (stepOf t d .number) in
     let u = stepOf t d .table in
     let n : place + 1 + length es ≡ place + suc (length es) = omega arith in
     ap (λ (x : List ℕ). r ++ x) (refusals-more (place + 1) u es e)
-    ∙ sym (append-assoc r (refusalsOf (place + 1) u es) (refusal (place + 1 + length es) (stepOf (runOf u es) e .number)))
-    ∙ ap (λ (k : ℕ). r ++ refusalsOf (place + 1) u es ++ refusal k (stepOf (runOf u es) e .number)) n
+    ∙ sym (append-assoc r (refusals (place + 1) (answersOf u es)) (refusal (place + 1 + length es) (stepOf (runOf u es) e .number)))
+    ∙ ap (λ (k : ℕ). r ++ refusals (place + 1) (answersOf u es) ++ refusal k (stepOf (runOf u es) e .number)) n
 
-pub refusals-most : (place : ℕ) (t : Table) (es : List (List ℕ)) → length (refusalsOf place t es) ≤ 23 * length es
-unfolding refusalsOf
+pub refusals-most : (place : ℕ) (t : Table) (es : List (List ℕ)) → length (refusals place (answersOf t es)) ≤ 23 * length es
+unfolding refusals answersOf
 refusals-most place t [] = omega arith
 refusals-most place t (e ∷ es) =
     let r = refusal place (stepOf t e .number) in
-    omega (arith, length-append r (refusalsOf (place + 1) (stepOf t e .table) es), refusal-most place (stepOf t e .number) (number-most t e), refusals-most (place + 1) (stepOf t e .table) es)
+    omega (arith, length-append r (refusals (place + 1) (answersOf (stepOf t e .table) es)), refusal-most place (stepOf t e .number) (number-most t e), refusals-most (place + 1) (stepOf t e .table) es)
 
 -- ---- the events of s, of which the first k have been run
 
 -- the first k events of s have been run from t, and their lines stand at the front of the buffer d, which is now e
 pub record Turn (t : Table) (s d : List ℕ) (k at : ℕ) (u : Table) (e : List ℕ) : Type 0 where
   pub table : u ≡ runOf t (tabulate (eventAt s) k)
-  pub lines : Written d 0 (refusalsOf 1 t (tabulate (eventAt s) k)) e at
+  pub lines : Written d 0 (refusals 1 (answersOf t (tabulate (eventAt s) k))) e at
   pub most : at ≤ 23 * k
 
 module _ (t : Table) (s d : List ℕ) where
   pub turn-none : Turn t s d 0 0 t d
-  unfolding tabulate runOf refusalsOf
+  unfolding tabulate runOf answersOf refusals
   turn-none = record { table = refl; lines = record { text = sym (over-none d 0); end = refl }; most = omega arith }
 
   pub turn-more : (k at : ℕ) (u : Table) (e f : List ℕ) (r : Ran) → Turn t s d k at u e
@@ -103,15 +103,15 @@ module _ (t : Table) (s d : List ℕ) where
       let b = eventAt s k in
       let l : length es ≡ k = length-tabulate (eventAt s) 0 [] k in
       let place : 1 + length es ≡ k + 1 = omega arith in
-      let w : refusalsOf 1 t es ++ refusal (k + 1) (stepOf u b .number) ≡ refusalsOf 1 t (tabulate (eventAt s) (k + 1)) =
-      ap (λ (v : Table). refusalsOf 1 t es ++ refusal (k + 1) (stepOf v b .number)) (p .table)
-      ∙ ap (λ (n : ℕ). refusalsOf 1 t es ++ refusal n (stepOf (runOf t es) b .number)) (sym place)
+      let w : refusals 1 (answersOf t es) ++ refusal (k + 1) (stepOf u b .number) ≡ refusals 1 (answersOf t (tabulate (eventAt s) (k + 1))) =
+      ap (λ (v : Table). refusals 1 (answersOf t es) ++ refusal (k + 1) (stepOf v b .number)) (p .table)
+      ∙ ap (λ (n : ℕ). refusals 1 (answersOf t es) ++ refusal n (stepOf (runOf t es) b .number)) (sym place)
       ∙ sym (refusals-more 1 t es b)
-      ∙ ap (refusalsOf 1 t) (sym (tabulate-next (eventAt s) k)) in
-      let m : length (refusalsOf 1 t (tabulate (eventAt s) (k + 1))) ≤ 23 * (k + 1) =
+      ∙ ap (λ (x : List (List ℕ)). refusals 1 (answersOf t x)) (sym (tabulate-next (eventAt s) k)) in
+      let m : length (refusals 1 (answersOf t (tabulate (eventAt s) (k + 1)))) ≤ 23 * (k + 1) =
       omega (arith, refusals-most 1 t (tabulate (eventAt s) (k + 1)), length-tabulate (eventAt s) 0 [] (k + 1)) in
-      let g : Written d 0 (refusalsOf 1 t es ++ refusal (k + 1) (stepOf u b .number)) f (r .length) = then (p .lines) (q .lines) (rw w (omega arith)) in
-      let x : Written d 0 (refusalsOf 1 t (tabulate (eventAt s) (k + 1))) f (r .length) = rw w at g in
+      let g : Written d 0 (refusals 1 (answersOf t es) ++ refusal (k + 1) (stepOf u b .number)) f (r .length) = then (p .lines) (q .lines) (rw w (omega arith)) in
+      let x : Written d 0 (refusals 1 (answersOf t (tabulate (eventAt s) (k + 1)))) f (r .length) = rw w at g in
       record {
         table = q .table ∙ ap (λ (v : Table). stepOf v b .table) (p .table) ∙ sym (run-more t es b) ∙ ap (runOf t) (sym (tabulate-next (eventAt s) k));
         lines = x;
@@ -119,7 +119,7 @@ module _ (t : Table) (s d : List ℕ) where
       }
 
   pub turn-end : (k at : ℕ) (u : Table) (e : List ℕ) → k ≡ eventCount s → Turn t s d k at u e
-      → Listed d 0 (refusalsOf 1 t (eventsIn s)) (runOf t (eventsIn s)) e (record { table = u; length = at })
+      → Listed d 0 (refusals 1 (answersOf t (eventsIn s))) (runOf t (eventsIn s)) e (record { table = u; length = at })
   unfolding eventsIn
   turn-end k at u e h p =
       record { table = rw h at (p .table); lines = rw h at (p .lines) }

@@ -9,7 +9,6 @@ use Rattle.lists.specs.Scan.{tabulate}
 use Rattle.text.specs.Text.{Written}
 use Rattle.lines.specs.Lines.{eventRefused}
 use Rattle.table.specs.declared.Table.{Table}
-use Rattle.dispatcher.specs.Step.{stepOf}
 use Rattle.run.specs.declared.Ran.{Ran}
 
 -- "Events are three bytes": those of event k, counted from 0; the last event has fewer where the bytes end before it does
@@ -28,10 +27,10 @@ eventsIn s = tabulate (eventAt s) (eventCount s)
 unfoldable pub refusal : ℕ → ℕ → List ℕ
 refusal place n = cond (eqb n 0) [] (eventRefused place n)
 
--- "Otherwise each refused event prints a line": those of a list whose first event has this place and is given the table t
-unfoldable pub refusalsOf : ℕ → Table → List (List ℕ) → List ℕ
-refusalsOf place t [] = []
-refusalsOf place t (e ∷ es) = refusal place (stepOf t e .number) ++ refusalsOf (place + 1) (stepOf t e .table) es
+-- "Otherwise each refused event prints a line": those of events that were answered these numbers, the first of which has this place
+unfoldable pub refusals : ℕ → List ℕ → List ℕ
+refusals place [] = []
+refusals place (n ∷ ns) = refusal place n ++ refusals (place + 1) ns
 
 -- what a function leaves that runs events on a table and writes the lines w over the buffer from position at on: the table u, and the position after w
 pub record Listed (before : List ℕ) (at : ℕ) (w : List ℕ) (u : Table) (after : List ℕ) (r : Ran) : Type 0 where

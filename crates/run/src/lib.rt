@@ -4,8 +4,8 @@ ghost use mathlib.Core.Bool.{true};
 ghost use Prim.Native.Nat.{_+_, _*_, _≤_, _<_};
 ghost use lib.ListN.{length};
 ghost use Rattle.validity.specs.Validity.{tableOk};
-ghost use Rattle.dispatcher.specs.Step.{runOf};
-ghost use Rattle.run.specs.Run.{eventAt, eventsIn, refusalsOf, Listed};
+ghost use Rattle.dispatcher.specs.Step.{runOf, answersOf};
+ghost use Rattle.run.specs.Run.{eventAt, eventsIn, refusals, Listed};
 use table::Table;
 
 // The table after the events, and the position after the lines written.
@@ -32,7 +32,7 @@ fn event_at(s: &[u8], k: usize) -> &[u8]
 pub fn run(t: Table, s: &[u8], out: &mut [u8]) -> Ran
     requires { ⌜ tableOk t ≡ true ⌝ }
     requires { ⌜ (length (now s) ≤ 60000) × (460000 ≤ length (now out)) ⌝ }
-    ensures { λ r. ⌜ Listed (now (out .entry)) 0 (refusalsOf 1 t (eventsIn (now (s .entry)))) (runOf t (eventsIn (now (s .entry)))) (now (out .exit)) r ⌝ }
+    ensures { λ r. ⌜ Listed (now (out .entry)) 0 (refusals 1 (answersOf t (eventsIn (now (s .entry))))) (runOf t (eventsIn (now (s .entry)))) (now (out .exit)) r ⌝ }
 {
     let n = (s.len() + 2) / 3;
     let mut table = t;

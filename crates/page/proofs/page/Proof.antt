@@ -6,6 +6,7 @@ use Rattle.validity.specs.Validity.{tableOk}
 use Rattle.fresh.proofs.Passes.{fresh-passes}
 use Rattle.page.proofs.Opened.{verdict-small}
 use Rattle.page.proofs.Pages.{short-printed, short-buffer, page-printed, page-buffer, refused-written, accepted-written}
+use Rattle.page.proofs.Reports.{front-reported}
 use borrow.Author.Needs.{needs}
 use Rattle.page.proofs.page.Statement.{statement}
 use Rattle.page.proofs.page.Tie as tie
@@ -13,7 +14,9 @@ use Rattle.page.proofs.page.Tie as tie
 returns : tie.Need-returns
 returns c =
     let a = c .before .before .before .before .args in
-    (short-printed (a .book .now) (a .events .now) (a .out .now) (c .if1 .taken), short-buffer (a .book .now) (a .events .now) (a .out .now) (c .if1 .taken))
+    let p = short-printed (a .book .now) (a .events .now) (a .out .now) (c .if1 .taken) in
+    let q = short-buffer (a .book .now) (a .events .now) (a .out .now) (c .if1 .taken) in
+    (p, (q, front-reported (a .book .now) (a .events .now) (a .out .now) _ _ p q))
 
 verdict-requires : tie.Need-verdict-requires
 verdict-requires c κs = search needs
@@ -34,7 +37,9 @@ returns-2 c =
     let v = c .before .before .before .before .before .verdict in
     let w = refused-written (a .book .now) (a .events .now) (v .result) (v .ensures) (c .before .before .before .before .if2 .taken) (c .before .before .put-book-refused .ensures) in
     let h = c .before .before .before .before .before .before .if1 .left in
-    (page-printed (a .book .now) (a .events .now) (a .out .now) h _ _ w, page-buffer (a .book .now) (a .events .now) (a .out .now) h _ _ w)
+    let p = page-printed (a .book .now) (a .events .now) (a .out .now) h _ _ w in
+    let q = page-buffer (a .book .now) (a .events .now) (a .out .now) h _ _ w in
+    (p, (q, front-reported (a .book .now) (a .events .now) (a .out .now) _ _ p q))
 
 fresh-requires : tie.Need-fresh-requires
 fresh-requires c κs = search needs
@@ -62,7 +67,9 @@ returns-3 c =
     let f = c .before .before .before .before .first-bytes in
     let w = accepted-written (a .book .now) (a .events .now) (v .result) (v .ensures) (t .result) (f .result .now) (omega arith) (t .ensures) (f .ensures) (c .before .before .put-run .ensures) in
     let h = c .before .before .before .before .before .before .before .before .if1 .left in
-    (page-printed (a .book .now) (a .events .now) (a .out .now) h _ _ w, page-buffer (a .book .now) (a .events .now) (a .out .now) h _ _ w)
+    let p = page-printed (a .book .now) (a .events .now) (a .out .now) h _ _ w in
+    let q = page-buffer (a .book .now) (a .events .now) (a .out .now) h _ _ w in
+    (p, (q, front-reported (a .book .now) (a .events .now) (a .out .now) _ _ p q))
 
 pub page-spec : {M : Type 1} → statement M
 page-spec =

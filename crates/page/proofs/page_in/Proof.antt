@@ -1,0 +1,40 @@
+-- `page::page_in` meets its contract: in a buffer with room for every page the page is its front. Assumes nothing.
+use Prim.Native.Nat.{_-_}
+use mathlib.Core.Path.{_≡_, ap, _∙_}
+use native.Mathlib.Omega.{arith}
+use lib.ListN.{length}
+use Rattle.page.specs.declared.Printed.{Printed}
+use Rattle.page.specs.Page.{pageOf}
+use Rattle.page.proofs.Pages.{printed-fits}
+use Rattle.page.proofs.Reports.{page-front, printed-length}
+use borrow.Author.Needs.{needs}
+use Rattle.page.proofs.page_in.Statement.{statement}
+use Rattle.page.proofs.page_in.Tie as tie
+
+page-requires : tie.Need-page-requires
+page-requires c κs = search needs
+
+sub-result : tie.Need-sub-result
+sub-result c = search needs
+
+part-out-start : tie.Need-part-out-start
+part-out-start c = search needs
+
+part-out-end : tie.Need-part-out-end
+part-out-end c =
+    let a = c .before .before .before .before .before .before .before .args in
+    omega (arith, printed-fits (a .book .now) (a .events .now) (a .out .now), ap (λ (p : Printed). p .length) (c .before .before .page .ensures .0))
+
+returns : tie.Need-returns
+returns c =
+    let s = c .before .before .before .before .before .before .before .before in
+    let book = s .args .book .now in
+    let events = s .args .events .now in
+    let out = s .args .out .now in
+    let e = c .before .before .before .page .ensures in
+    let n : c .before .before .before .page .result .length - 0 ≡ length (pageOf book events) =
+    omega (arith, ap (λ (p : Printed). p .length) (e .0), printed-length book events out (s .pre)) in
+    rw (n, e .1 .0, page-front book events out (s .pre))
+
+pub page-in-spec : {M : Type 1} → statement M
+page-in-spec = tie.close (tie.spec page-requires sub-result part-out-start part-out-end returns)
