@@ -137,7 +137,8 @@ class Row:
         try:
             return meaning(text)
         except (KeyError, ValueError):
-            self.faults.append(Fault(None, self.number, column, f"{desk.quoted(text)} {fault}{desk.strange(text)}"))
+            shown = desk.quoted(text) if text.strip() else "an empty cell"
+            self.faults.append(Fault(None, self.number, column, f"{shown} {fault}{desk.strange(text)}"))
             return accepted
 
     def read_rate(self, column: str) -> float:

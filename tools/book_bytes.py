@@ -71,13 +71,13 @@ def meant_by(text: str) -> str:
     return plain if str(check_digit(plain[:-1].encode("ascii"))) == plain[-1] else ""
 
 
-def identifier_fault(identifier: bytes, rows: collections.abc.Mapping[bytes, int], row: int) -> tuple[int, str] | None:
-    """4, 5 or 6, and why. An identifier stands first in the row that the mapping has."""
+def identifier_fault(identifier: bytes, rows: dict[bytes, int], row: int) -> tuple[int, str] | None:
+    """4, 5 or 6, and why. An identifier stands first, or is meant first, in the row that is in rows."""
     text = identifier.decode("utf-8", "surrogateescape")
     why = form_fault(text)
     if why:
         meant = meant_by(text)
-        hint = f"; did you mean {meant}?" if meant and meant.encode("ascii") not in rows else ""
+        hint = f"; did you mean {meant}?" if meant and rows.setdefault(meant.encode("ascii"), row) == row else ""
         return 4, f"{desk.quoted(text)} is no identifier: {why}{hint}"
     digit = check_digit(identifier[:-1])
     if int(text[-1]) != digit:

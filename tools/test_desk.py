@@ -6,10 +6,14 @@
 It needs Python's standard library only, and writes to a temporary folder. What is expected is document 01's, or was decided
 by other programs: the books of book_cases with their numbers, the page of the sample close.
 """
+import contextlib
 import math
 import os
 import pathlib
 import random
+import resource
+import shutil
+import stat
 import struct
 import subprocess
 import sys
@@ -34,6 +38,8 @@ PICTURES = {  # those of docs/, with their titles
     SAMPLE: ("sample-close.svg", "The sample close: twenty bonds on four machines, one of which dies"),
     FIRST: ("first-run.svg", "A first run: three bonds on three machines"),
 }
+
+ANNOTATED = ["book.py", "book_bytes.py", "desk.py", "events.py", "history.py", "model.py", "picture.py", "svg.py"]
 
 HEADER = "identifier,kind,periods,coupon,yield\n"
 GOOD = "ZZ0000000016,fixed,2,4,0\n"
@@ -95,12 +101,20 @@ def book_cases():
             at += 6 + length + 25 * questions
 
 
+def names(count):
+    """Identifiers that pass, all different."""
+    return [book_bytes.with_check_digit(b"ZZ%09d" % i) for i in range(count)]
+
+
+def entries_of(terms):
+    """An entry for each term."""
+    return [book_bytes.Entry(name, *term) for name, term in zip(names(len(terms)), terms)]
+
+
 def random_run(seed, machines, entries, count):
     """A book and events most of which are accepted; deaths and broken events among them."""
     rng = random.Random(seed)
-    names = [b"ZZ%09d" % i for i in range(entries)]
-    terms = [(book_bytes.FIXED, rng.randint(1, 240), 0, 100 * rng.random(), rng.random()) for _ in names]
-    bonds = [book_bytes.Entry(name + b"%d" % book_bytes.check_digit(name), *term) for name, term in zip(names, terms)]
+    bonds = entries_of([(book_bytes.FIXED, rng.randint(1, 240), 0, 100 * rng.random(), rng.random()) for _ in range(entries)])
     table, found = model.Table(machines, bonds), []
     for _ in range(count):
         found.append(random_event(rng, table))
@@ -176,10 +190,8 @@ class Books(Folder):
 
     def test_rates_come_back_bit_for_bit(self):
         rates = [0.0, -0.0, 5e-324, 0.1, 1 / 3, math.nextafter(1.0, 0.0), 1.0]
-        names = [b"ZZ%09d" % i for i in range(len(rates) ** 2)]
-        names = [name + b"%d" % book_bytes.check_digit(name) for name in names]
         terms = [(book_bytes.FIXED, 2, 0, coupon, ytm) for coupon in rates for ytm in rates]
-        data = book_bytes.book_of(2, [book_bytes.Entry(name, *term) for name, term in zip(names, terms)])
+        data = book_bytes.book_of(2, entries_of(terms))
         self.assertEqual(book_bytes.number_of(data), 0)
         self.assertEqual(book.make(book.show(data)), data)
 
@@ -229,7 +241,7 @@ class Books(Folder):
             self.assertEqual(self.make(text)[1], plain)
 
     def test_refused_2(self):
-        rows = "".join(f"{name}{book_bytes.check_digit(name.encode())},zero,1,,0\n" for name in (f"ZZ{i:09}" for i in range(65)))
+        rows = "".join(f"{name.decode()},zero,1,,0\n" for name in names(65))
         self.assert_refused(HEADER + rows, "65 bonds", "refused 2")
         for machines in ("1", "17", "-1", "70000"):
             self.assert_refused(HEADER + GOOD, "machines", machines, "refused 2", options=["--machines=" + machines])
@@ -254,6 +266,80 @@ class Books(Folder):
                 ("fixed,2,100.00000000000002,0", "coupon"), ("fixed,2,nan,0", "coupon"), ("fixed,2,inf,0", "coupon"), ("fixed,2,4,-0.5", "yield"),
                 ("fixed,2,4,1.0000000000000002", "yield"), ("fixed,2,4,nan", "yield"), ("zero,2,1,0", "coupon"), ("zero,2,-0.0,0", "coupon")):
             self.assert_refused(HEADER + GOOD + "ZZ0000000024," + row + "\n", f"row 3, column {column}", "refused 7")
+        self.assert_refused(HEADER + "ZZ0000000016,fixed,2,4,4.25\n", "4.25 is outside 0 to 1; 4.25 percent is written 0.0425")
+
+    def test_identifiers_that_may_be_meant(self):
+        """A corrected form is offered where it would pass, and the character in the way is named."""
+        for cell, words, meant in (
+                ("us0378331005", "character 1 is 'u', and A to Z is expected there", True), ("US0378331005 ", "character 13 is a space", True),
+                ("US0378331005\u00a0", "'US0378331005<a no-break space>' is no identifier: character 13 is a no-break space", True),
+                ("\u200bUs0378331005", "character 1 is zero width space (U+200B)", True), ("US\t0378331005", "character 3 is a tab", True),
+                ("us0378331006", "character 1 is 'u'", False), ("US037833100", "it has 11 characters, and an identifier has 12", False),
+                ("US03783310O5 ", "character 13 is a space", False), ("zz0000000016", "character 1 is 'z'", False),
+                ("ZZ00000000\u00e96", "character 11 is latin small letter e with acute (U+00E9), and A to Z or 0 to 9", False),
+                ("ZZ000000001\u0661", "character 12 is arabic-indic digit one (U+0661), and 0 to 9 is expected", False)):
+            done = self.make(HEADER + GOOD + f'"{cell}",zero,2,,0.5\n')[0]
+            self.assert_message(done, "row 3, column identifier: ", words, "(refused 4)")
+            self.assertEqual("did you mean US0378331005?" in done.stderr.decode(), meant, cell)
+            self.assertEqual("did you mean" in done.stderr.decode(), meant, cell)
+            self.assertNotIn(b"\\", done.stderr)
+        done = self.make(HEADER + "zz0000000016,zero,2,,0\nZz0000000016,zero,2,,0\n")[0]
+        self.assertEqual(done.stderr.count(b"did you mean ZZ0000000016?"), 1)  # the second would be refused 6
+        faulty = book.make(LISTING_BOOK).replace(b"ZZ0000000024", b"ZZ000\xff000024")
+        self.assert_message(tool("book.py", "show", self.file("f.bin", faulty)), "character 6 is the byte 255")
+
+    def test_headers(self):
+        """What is found, where, and what is expected."""
+        expected = "is not the header identifier,kind,periods,coupon,yield: "
+        for row, words in (
+                ("identifier;kind;periods;coupon;yield", "its cells are parted by semicolons, not by commas"),
+                ("identifier\tkind\tperiods\tcoupon\tyield", "its cells are parted by tabs, not by commas"),
+                ("identifier,kind,periods,yield,coupon", "column 4 is 'yield', and coupon is expected there"),
+                ("identifier,kind,coupon", "it has no periods and no yield"), ("ISIN,kind,periods,coupon,yield", "it has no identifier"),
+                ("identifier,kind,periods,coupon,yield,price", "column 6 is 'price', and there are 5 columns"),
+                (GOOD.strip(), "it has none of the columns")):
+            done, written = self.make("# a comment\n\n" + row + "\n" + GOOD)
+            self.assert_lines(done, "row 3: '" + row.replace("\t", "<a tab>") + "' " + expected + words, str(self.folder))
+            self.assertIsNone(written)
+        self.assert_refused("# machines 3\n", "the header identifier,kind,periods,coupon,yield is missing")
+        self.assert_refused(HEADER + GOOD.replace(",", ";"), "row 2: its cells are parted by semicolons, not by commas")
+
+    def test_rates_in_the_other_unit(self):
+        """A warning stops nothing. Document 01's examples, with a yield of 0.5, have none."""
+        coupon = "warning: row 3, column coupon: 0.045 is taken as 0.045 per 100 of face; a coupon of 4.5 percent is written 4.5"
+        ytm = "warning: row 3, column yield: 0.95 is taken as 95 percent; a yield of 0.95 percent is written 0.0095"
+        for terms, lines in (("fixed,2,0.045,0.05", [coupon]), ("fixed,2,4,0.95", [ytm]), ("zero,2,,0.95", [ytm]), ("fixed,2,0.045,0.95", [coupon, ytm]),
+                             ("fixed,2,0.25,0.5", []), ("fixed,2,0,0", []), ("zero,2,,0.5", []), ("fixed,2,100,0.05", [])):
+            done, written = self.make("# machines 4\n" + HEADER + f"ZZ0000000016,{terms}\n")
+            said = [line.split(": ", 1)[1] for line in done.stderr.decode().splitlines()]
+            self.assertEqual((done.returncode, said), (0, lines), terms)
+            self.assertEqual(book_bytes.number_of(written), 0)
+        rows = "".join(f"{name.decode()},fixed,2,0.01,0.99\n" for name in names(64))
+        done = self.make("# machines 4\n" + HEADER + rows)[0]
+        self.assertEqual((done.returncode, len(done.stderr.splitlines())), (0, 21))
+        self.assertIn(b"and 108 more warnings", done.stderr)
+
+    def test_too_many_bonds(self):
+        """Refused at once, whatever else is wrong with them."""
+        self.assert_lines(self.make(HEADER + GOOD * 60000)[0], "60000 bonds, and a book has 64 at most (refused 2)", str(self.folder))
+        done, written = self.make(HEADER + GOOD * 60000, "--anyway")
+        self.assertEqual((done.returncode, len(written)), (0, 4 + 31 * 60000))
+
+    def test_the_first_faults_are_named(self):
+        lines = [f"row {row}, column identifier" for row in range(3, 23)]
+        self.assert_lines(self.make(HEADER + GOOD * 64)[0], *lines, "and 43 more faults", str(self.folder))
+        comments = "# machines many\n" * 21
+        self.assert_lines(self.make(comments + HEADER)[0], *(f"row {row}: " for row in range(1, 21)), "and 1 more fault", str(self.folder))
+
+    def test_statuses(self):
+        """3 where the book is refused or would be, 1 where a cell has no meaning."""
+        for text, options, status in (
+                (HEADER + GOOD, [], 0), (HEADER + GOOD + GOOD, [], 3), (HEADER + GOOD, ["--machines=1"], 3), (HEADER + GOOD * 65, [], 3),
+                (HEADER + GOOD + GOOD, ["--anyway"], 0), (HEADER + "ZZ0000000016,bill,2,4,0\n", [], 1), (HEADER + "ZZ0000000017,bill,2,4,0\n", [], 3),
+                ("# machines many\n" + HEADER, [], 1), (GOOD, [], 1), (HEADER + GOOD, ["--machines=x"], 2)):
+            self.assertEqual(self.make(text, *options)[0].returncode, status, (text, options))
+        for data, status in ((book.make(LISTING_BOOK), 0), (b"", 3), (book.make(LISTING_BOOK)[:-1], 3), (b"\x02\0\x01\0" + bytes(31), 3)):
+            self.assertEqual(tool("book.py", "show", self.file("s.bin", data)).returncode, status)
 
     def test_every_fault_is_named(self):
         text = HEADER + "ZZ0000000017,fixed,0,101,2\n# between\n" + GOOD + GOOD
@@ -367,6 +453,12 @@ class Events(Folder):
         self.assert_lines(done, "line 1", "line 2", "line 4", "line 5", "line 6", str(self.folder))
         self.assert_message(done, "events.bin is not written; the old one is left as it was")
 
+    def test_the_first_faults_are_named(self):
+        lines = [f"line {place}: " for place in range(1, 21)]
+        for count, more in ((20, []), (21, ["and 1 more fault"]), (200000, ["and 199980 more faults"])):
+            done = tool("events.py", "make", self.file("e.txt", "admit x\n" * count), self.folder / "events.bin")
+            self.assert_lines(done, *lines, *more, str(self.folder))
+
     def test_commands(self):
         path = self.file("e.txt", LISTING_EVENTS)
         self.assertEqual(tool("events.py", "make", path, self.folder / "events.bin").returncode, 0)
@@ -462,14 +554,13 @@ class Model(Folder):
         """Every bond goes by way of 1 to 2, which runs it; its ACK and RESULT stay in flight: 128 messages."""
         moved = ("steal 1 from 0\ndeliver 1 to 0\ndeliver 0 to 0\ndeliver 0 to 0\ndeliver 0 to 1\ndeliver 1 to 0\n"
                  "steal 2 from 1\ndeliver 2 to 1\ndeliver 1 to 0\ndeliver 0 to 1\ndeliver 1 to 2\n")
-        names = [f"ZZ{job:09}" for job in range(64)]
-        rows = "".join(f"{name}{book_bytes.check_digit(name.encode())},fixed,2,4,0\n" for name in names)
+        rows = "".join(f"{name.decode()},fixed,2,4,0\n" for name in names(64))
         text = "".join(f"admit {job}\n{moved}start 2 job {job}\ndone 2\n" for job in range(63)) + "admit 63\n" + moved + "start 2 job 63\n"
         last = "steal 0 from 1\ndone 2\nsteal 1 from 0\ndeliver 0 to 1\ndeliver 1 to 0\ndone 2\n"  # FISH makes 128, NOWORK is taken off
         page = model.page(book.make("# machines 3\n" + HEADER + rows), events.make(text + last))
         count = len(text.splitlines())
         self.assertEqual(page.splitlines()[:3], [f"event {count + 2} refused 16", f"event {count + 3} refused 16",
-                                                 f"{names[0]}{book_bytes.check_digit(names[0].encode())} open replica 1"])
+                                                 f"{names(1)[0].decode()} open replica 1"])
 
     def test_a_refused_event_changes_nothing(self):
         for seed in range(20):
@@ -482,10 +573,25 @@ class Model(Folder):
                 if number:
                     self.assertEqual(repr((table.jobs, table.machines, table.flight)), before)
 
+    def assert_page(self, page, status, *unread):
+        """The folder's page and exit status, and the files that are named as not read."""
+        done = tool("model.py", self.folder)
+        said = [f"model.py: {self.folder / name} cannot be read: {why}; it counts as empty" for name, why in unread]
+        self.assertEqual((done.stdout.decode(), done.returncode, done.stderr.decode().splitlines()), (page, status, said))
+
     def test_files_that_are_not_there(self):
-        self.assertEqual(tool("model.py", self.folder).stdout, b"book refused 1\n")
+        none, bare = "No such file or directory", "ZZ0000000016 not admitted\nZZ0000000024 not admitted\n"
+        self.assert_page("book refused 1\n", 1, ("book.bin", none), ("events.bin", none))
         self.file("book.bin", book.make(LISTING_BOOK))
-        self.assertEqual(tool("model.py", self.folder).stdout, b"ZZ0000000016 not admitted\nZZ0000000024 not admitted\n")
+        self.assert_page(bare, 1, ("events.bin", none))
+        self.file("events.bin", b"")
+        self.assert_page(bare, 0)
+        self.file("book.bin", b"")
+        self.assert_page("book refused 1\n", 3)
+        (self.folder / "book.bin").unlink()
+        self.assert_page("book refused 1\n", 1, ("book.bin", none))
+        (self.folder / "book.bin").mkdir()
+        self.assert_page("book refused 1\n", 1, ("book.bin", "Is a directory"))
         self.assert_message(tool("model.py", self.folder / "none"), "not a folder")
 
     def test_refused_books_and_long_lists(self):
@@ -512,6 +618,14 @@ class Samples(unittest.TestCase):
     def test_pictures_are_those_in_docs(self):
         for folder, (name, title) in PICTURES.items():
             self.assertEqual((ROOT / "docs" / name).read_text(encoding="utf-8"), svg.document(picture.picture(*self.made(folder), title)))
+
+
+@unittest.skipUnless(shutil.which("mypy"), "mypy is not there (Debian: mypy)")
+class Types(Folder):
+    def test_annotations(self):
+        command = ["mypy", "--strict", "--cache-dir", str(self.folder), *(str(ROOT / "tools" / name) for name in ANNOTATED)]
+        done = subprocess.run(command, stdout=subprocess.PIPE, stderr=subprocess.STDOUT, timeout=120, check=False)
+        self.assertEqual(done.returncode, 0, done.stdout.decode())
 
 
 class Picture(Folder):
@@ -577,8 +691,7 @@ class Picture(Folder):
         """Terms and states are whole, and none covers another or leaves the picture."""
         terms = [(book_bytes.FIXED, 240, 0, 100 / 3, 1 / 3), (book_bytes.FIXED, 240, 0, 2.2250738585072014e-308, 1.2345678901234568e-300),
                  (book_bytes.FIXED, 240, 0, 100.0, 0.0), (book_bytes.ZERO, 1, 0, 0.0, 0.5)]
-        names = [b"ZZ%09d" % i for i in range(len(terms))]
-        bonds = [book_bytes.Entry(name + b"%d" % book_bytes.check_digit(name), *term) for name, term in zip(names, terms)]
+        bonds = entries_of(terms)
         found = "".join(f"admit {i}\nstart 0 job {i}\ndone 0\ndeliver 0 to 0\n" for i in range(len(terms)))
         tree = xml.etree.ElementTree.fromstring(svg.document(picture.picture(book_bytes.book_of(2, bonds), events.make(found))))
         texts = {node.text: node for node in tree.iter("{http://www.w3.org/2000/svg}text")}
@@ -597,10 +710,123 @@ class Picture(Folder):
             self.assertEqual((done.returncode, b"32767" in done.stderr), (0, told))
             self.assertTrue((self.folder / "out.svg").exists())
 
-    def test_refused_book(self):
-        self.file("book.bin", b"\x02\0\x01\0")
-        self.assert_message(tool("picture.py", self.folder, self.folder / "out.svg"), "book refused 3")
-        self.assertFalse((self.folder / "out.svg").exists())
+    def test_statuses(self):
+        """A file that is not read is 1, a refused book 3; without events there is a picture all the same."""
+        out = self.folder / "out.svg"
+        for data, found, status, lines in (
+                (None, None, 1, ["/", "/", "book refused 1: there is no run to draw", str(out)]), (None, b"", 1, ["/", "book refused 1", str(out)]),
+                (b"\x02\0\x01\0", b"", 3, ["book refused 3", str(out)]), (b"\x02\0\x01\0", None, 1, ["/", "book refused 3", str(out)]),
+                (book.make(LISTING_BOOK), None, 1, [f"{self.folder / 'events.bin'} cannot be read: No such file"]),
+                (book.make(LISTING_BOOK), b"", 0, [])):
+            for name, content in (("book.bin", data), ("events.bin", found)):
+                (self.folder / name).unlink(missing_ok=True)
+                if content is not None:
+                    self.file(name, content)
+            out.unlink(missing_ok=True)
+            done = tool("picture.py", self.folder, out)
+            said = [line.split(": ", 1)[1] for line in done.stderr.decode().splitlines()]
+            self.assertEqual((done.returncode, len(said)), (status, len(lines)), said)
+            self.assertTrue(all(line.startswith(start) for line, start in zip(said, lines)), said)
+            self.assertEqual(out.exists(), "there is no run" not in done.stderr.decode())
+
+
+def small_files():
+    """For a process: no file longer than 8 bytes can be written, as on a full disk."""
+    resource.setrlimit(resource.RLIMIT_FSIZE, (8, 8))
+
+
+@contextlib.contextmanager
+def no_root():
+    """Root may write everywhere."""
+    user = os.geteuid()
+    if user == 0:
+        os.seteuid(65534)
+    try:
+        yield
+    finally:
+        os.seteuid(user)
+
+
+class Writing(Folder):
+    """An output is whole, or as it was before."""
+
+    def making(self, out):
+        """A command for each kind of output, and what it writes."""
+        rows, lines, run = self.file("b.csv", LISTING_BOOK), self.file("e.txt", LISTING_EVENTS), CRATES / "rakhvide" / "data"
+        drawn = svg.document(picture.picture(book.make(LISTING_BOOK), events.make(LISTING_EVENTS)))
+        return ((["book.py", "make", rows, out], book.make(LISTING_BOOK)), (["events.py", "make", lines, out], events.make(LISTING_EVENTS)),
+                (["picture.py", run, out], drawn.encode("utf-8")))
+
+    def assert_untouched(self, out, old):
+        self.assertEqual(out.read_bytes() if out.exists() else None, old)
+        self.assertEqual({path.name for path in self.folder.iterdir()} - {out.name}, {"b.csv", "e.txt"})
+
+    def test_a_full_disk(self):
+        out = self.folder / "out"
+        for old in (None, b"old and longer than eight bytes"):
+            for command, _ in self.making(out):
+                if old is not None:
+                    out.write_bytes(old)
+                self.assert_lines(tool(*command, before=small_files), f"{out} cannot be written: File too large")
+                self.assert_untouched(out, old)
+
+    def test_modes(self):
+        out = self.folder / "out"
+        for command, data in self.making(out):
+            self.assertEqual(tool(*command, before=lambda: os.umask(0o027)).returncode, 0)
+            self.assertEqual((out.read_bytes(), out.stat().st_mode & 0o7777), (data, 0o640))
+            out.chmod(0o604)
+            out.write_bytes(b"old")
+            self.assertEqual(tool(*command).returncode, 0)
+            self.assertEqual((out.read_bytes(), out.stat().st_mode & 0o7777), (data, 0o604))
+            out.unlink()
+
+    @unittest.skipUnless(os.geteuid() == 0, "only root gives files away")
+    def test_owners(self):
+        out = self.file("out", "old")
+        os.chown(out, 4321, 8765)
+        desk.write_bytes(out, b"new", [])
+        self.assertEqual((out.read_bytes(), out.stat().st_uid, out.stat().st_gid), (b"new", 4321, 8765))
+
+    def test_links(self):
+        """The file that a link points to is replaced, or made, and the link stays."""
+        (self.folder / "far").mkdir()
+        link, far = self.folder / "link", self.folder / "far" / "out"
+        link.symlink_to("far/out")
+        for command, data in self.making(link):
+            self.assertEqual(tool(*command).returncode, 0)
+            self.assertEqual((os.readlink(link), far.is_symlink(), far.read_bytes()), ("far/out", False, data))
+        self.assertEqual(list((self.folder / "far").iterdir()), [far])
+        loop = self.folder / "loop"
+        loop.symlink_to("loop")
+        self.assert_message(tool("book.py", "make", self.folder / "b.csv", loop), "loop cannot be written")
+        self.assertTrue(loop.is_symlink())
+
+    def test_outputs_that_are_no_files(self):
+        out = self.folder / "out"
+        for command, data in self.making("/dev/stdout"):
+            done = tool(*command)
+            self.assertEqual((done.returncode, done.stdout), (0, data))
+            with open(out, "wb") as output:
+                self.assertEqual(tool(*command, output=output).returncode, 0)
+                self.assertEqual(os.fstat(output.fileno()).st_size, len(data))  # the file that is open, and not another in its place
+            self.assertEqual(out.read_bytes(), data)
+
+    @unittest.skipUnless(os.path.exists("/dev/full"), "a device of Linux")
+    def test_a_device_that_is_full(self):
+        for command, _ in self.making("/dev/full"):
+            self.assert_lines(tool(*command), "/dev/full cannot be written: No space left on device")
+        self.assertTrue(stat.S_ISCHR(os.stat("/dev/full").st_mode))
+
+    def test_files_and_folders_that_are_protected(self):
+        out = self.file("out", "old")
+        for file_mode, folder_mode, words in ((0o444, 0o777, "out cannot be written: Permission denied"), (0o666, 0o555, "takes no new file: Permission denied")):
+            out.chmod(file_mode)
+            self.folder.chmod(folder_mode)
+            with no_root(), self.assertRaisesRegex(desk.Stop, words):
+                desk.write_bytes(out, b"new", [])
+            self.folder.chmod(0o700)
+            self.assertEqual((out.read_bytes(), list(self.folder.iterdir())), (b"old", [out]))
 
 
 class Damage(Folder):
