@@ -39,7 +39,7 @@ PICTURES = {  # those of docs/, with their titles
     FIRST: ("first-run.svg", "A first run: three bonds on three machines"),
 }
 
-ANNOTATED = ["book.py", "book_bytes.py", "desk.py", "events.py", "history.py", "model.py", "picture.py", "svg.py"]
+ANNOTATED = ["book.py", "book_bytes.py", "desk.py", "events.py", "history.py", "make_sample.py", "model.py", "picture.py", "svg.py", "vector_files.py"]
 
 HEADER = "identifier,kind,periods,coupon,yield\n"
 GOOD = "ZZ0000000016,fixed,2,4,0\n"
@@ -479,9 +479,18 @@ class Model(Folder):
         self.assertEqual(tool("model.py", self.folder).stdout.decode(), LISTING_PAGE)
 
     def test_programs(self):
-        for crate in ("rakhvide", "sample_close"):
+        """The pages that the programs must print; no_files has no folder of data."""
+        for crate, status in (("rakhvide", 0), ("sample_close", 0), ("refused_book", 3), ("long_list", 0), ("broken_event", 0)):
             done = tool("model.py", CRATES / crate / "data")
-            self.assertEqual(done.stdout, (CRATES / crate / "stdout").read_bytes())
+            self.assertEqual((done.stdout, done.returncode, done.stderr), ((CRATES / crate / "stdout").read_bytes(), status, b""))
+        self.assertEqual(tool("model.py", self.folder).stdout, (CRATES / "no_files" / "stdout").read_bytes())
+        self.assertFalse((CRATES / "no_files" / "data").exists())
+
+    def test_program_files(self):
+        """The bytes that the pages of long_list and broken_event are about."""
+        data = (CRATES / "long_list" / "data" / "events.bin").read_bytes()
+        self.assertEqual((len(data), events.show(data[59997:])), (60006, "die 0\nadmit 0\ndie 0\n"))
+        self.assertEqual((CRATES / "broken_event" / "data" / "events.bin").read_bytes()[9:], bytes([1, 1]))
 
     def test_decimal(self):
         self.file("book.bin", book.make(LISTING_BOOK))
