@@ -838,6 +838,41 @@ class Writing(Folder):
             self.assertEqual((out.read_bytes(), list(self.folder.iterdir())), (b"old", [out]))
 
 
+class Bench(Folder):
+    """bench/run says what it needs before it begins."""
+
+    def run_bench(self, *arguments, path=None):
+        environment = dict(os.environ) if path is None else {**os.environ, "PATH": str(path)}
+        return subprocess.run([ROOT / "bench" / "run", *arguments], env=environment, stdout=subprocess.PIPE, stderr=subprocess.PIPE,
+                              timeout=120, check=False)
+
+    def assert_said(self, done, status, line):
+        self.assertEqual((done.returncode, done.stderr.decode().splitlines(), done.stdout), (status, [f"bench/run: {line}"], b""))
+
+    def test_usage(self):
+        for arguments in (["load"], ["load", self.folder, self.folder], ["draw"], ["draw", self.folder]):
+            self.assert_said(self.run_bench(*arguments), 2, "usage: bench/run, or bench/run load FOLDER")
+        self.assert_said(self.run_bench("load", self.folder / "none"), 1, f"{self.folder / 'none'} is not a folder")
+
+    def test_what_is_not_there(self):
+        commands = self.folder / "bin"
+        commands.mkdir()
+        for name in ("bash", "env", "dirname", "realpath"):
+            (commands / name).symlink_to(shutil.which(name))
+        self.assert_said(self.run_bench("load", self.folder, path=commands), 1, "cargo is not there (Debian: cargo)")
+        for name, package in (("cargo", "Debian: cargo"), ("gcc", "Debian: gcc"), ("rt", "the Rattle kit")):
+            self.assert_said(self.run_bench(path=commands), 1, f"{name} is not there ({package})")
+            (commands / name).symlink_to(shutil.which("false"))
+
+    @unittest.skipUnless(shutil.which("cargo"), "cargo is not there (Debian: cargo)")
+    def test_load(self):
+        """It asks for cargo alone."""
+        done = self.run_bench("load", self.folder)
+        self.assertEqual((done.returncode, done.stdout, done.stderr), (0, b"", b""))
+        files = model.read_folder(self.folder)
+        self.assertEqual((book_bytes.number_of(files.book), len(files.book), len(files.events)), (0, 4 + 31 * 64, 60000))
+
+
 class Damage(Folder):
     def test_files_that_cannot_be_read_or_written(self):
         none, good = self.folder / "none", self.file("good.csv", LISTING_BOOK)
