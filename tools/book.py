@@ -21,8 +21,8 @@ checked". A cell without a meaning, as a kind that is no word of the list, has n
 are named; of more than 64 bonds none is looked at. --anyway writes the faulty book all the same, as far as it has a place for
 what the cells say: a kind is then a number from 0 to 255 too, and an identifier is filled with spaces or cut to 12 bytes.
 
-A rate that the rules accept may still be in the other unit. make writes the book and warns of a fixed bond's coupon above 0
-and below 0.25, which may be meant as a fraction, and of a yield above 0.5, which may be meant in percent.
+A rate that the rules accept may still be in the other unit. make writes the book and warns of a coupon above 0 and below 0.25,
+which may be meant as a fraction, and of a yield above 0.5, which may be meant in percent.
 
 show prints the CSV of a book, from which make makes the same bytes again where the book is accepted. A refused book may have
 bytes that a CSV does not hold, as a spare byte that is not 0.
@@ -147,7 +147,7 @@ class Row:
     def doubts(self) -> collections.abc.Iterator[Fault]:
         """Rates that the rules accept, and that may be in the other unit."""
         coupon, ytm = self.entry.coupon, self.entry.ytm
-        if self.entry.kind == books.FIXED and 0 < coupon < LEAST_COUPON:
+        if 0 < coupon < LEAST_COUPON:
             text = f"{coupon!r} is taken as {coupon!r} per 100 of face; a coupon of {100 * coupon:g} percent is written {100 * coupon:g}"
             yield Fault(None, self.number, "coupon", text)
         if MOST_YIELD < ytm <= 1:

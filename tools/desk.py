@@ -199,7 +199,7 @@ def run(main: collections.abc.Callable[[], int]) -> typing.NoReturn:
         warn(str(stop))
         status = stop.status
     except BrokenPipeError:  # the reader of the output has left, as head does
-        leave_output()
+        leave(sys.stdout)
         status = FAULTY
     sys.exit(status)
 
@@ -214,17 +214,21 @@ def say(text: str) -> None:
     except BrokenPipeError:
         raise
     except OSError as fault:
-        leave_output()
+        leave(sys.stdout)
         raise Stop(f"standard output cannot be written: {reason(fault)}") from None
 
 
-def leave_output() -> None:
+def leave(stream: typing.TextIO) -> None:
     """What is still unwritten goes nowhere; Python would try it again at the end."""
-    os.dup2(os.open(os.devnull, os.O_WRONLY), sys.stdout.fileno())
+    os.dup2(os.open(os.devnull, os.O_WRONLY), stream.fileno())
 
 
 def warn(text: str) -> None:
+    """Prints on standard error. What cannot be said changes nothing else."""
     if sys.stderr is None:  # closed, and print would take standard output in its place
         return
-    for line in text.splitlines():
-        print(f"{pathlib.Path(sys.argv[0]).name}: {line}", file=sys.stderr)
+    try:
+        for line in text.splitlines():
+            print(f"{pathlib.Path(sys.argv[0]).name}: {line}", file=sys.stderr)
+    except OSError:
+        leave(sys.stderr)

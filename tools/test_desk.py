@@ -85,10 +85,10 @@ ZZ0000000024 open replica 1
 """
 
 
-def tool(name, *arguments, output=subprocess.PIPE, before=None):
+def tool(name, *arguments, output=subprocess.PIPE, errors=subprocess.PIPE, before=None):
     """Runs a tool as the desk does."""
     command = [sys.executable, str(ROOT / "tools" / name), *map(os.fsencode, map(str, arguments))]
-    return subprocess.run(command, stdout=output, stderr=subprocess.PIPE, preexec_fn=before, timeout=60, check=False)
+    return subprocess.run(command, stdout=output, stderr=errors, preexec_fn=before, timeout=60, check=False)
 
 
 def book_cases():
@@ -310,7 +310,7 @@ class Books(Folder):
         ytm = "warning: row 3, column yield: 0.95 is taken as 95 percent; a yield of 0.95 percent is written 0.0095"
         for terms, lines in (("fixed,2,0.045,0.05", [coupon]), ("fixed,2,4,0.95", [ytm]), ("zero,2,,0.95", [ytm]), ("fixed,2,0.045,0.95", [coupon, ytm]),
                              ("fixed,2,0.25,0.5", []), ("fixed,2,0,0", []), ("zero,2,,0.5", []), ("fixed,2,100,0.05", [])):
-            done, written = self.make("# machines 4\n" + HEADER + f"ZZ0000000016,{terms}\n")
+            done, written = self.make(f"# machines 4\n{HEADER}ZZ0000000016,{terms}\n")
             said = [line.split(": ", 1)[1] for line in done.stderr.decode().splitlines()]
             self.assertEqual((done.returncode, said), (0, lines), terms)
             self.assertEqual(book_bytes.number_of(written), 0)
@@ -352,7 +352,9 @@ class Books(Folder):
                 ("ZZ0000000016,fixed,two,4,0", "row 2, column periods"), ("ZZ0000000016,fixed,2.5,4,0", "row 2, column periods"),
                 ("ZZ0000000016,fixed,2,,0", "row 2, column coupon"), ("ZZ0000000016,fixed,2,4%,0", "row 2, column coupon"),
                 ("ZZ0000000016,fixed,2,4,", "row 2, column yield"), ("ZZ0000000016,fixed,2,4", "row 2: 4 cells"),
-                ("ZZ0000000016,fixed," + "9" * 5000 + ",4,0", "row 2, column periods"), ('"ZZ0000000016', "CSV")):
+                ("ZZ0000000016,fixed," + "9" * 5000 + ",4,0", "row 2, column periods"), ('"ZZ0000000016', "not a CSV file: line 2: "),
+                ("ZZ0000000016,fixed,2, ,0", "row 2, column coupon: an empty cell is not a number"),
+                ("ZZ0000000016,fixed,2,4,0\u2024\u0665", "row 2, column yield: '0\u2024\u0665' is not a number: character 2 is one dot leader (U+2024)")):
             self.assert_refused(HEADER + row + "\n", words)
         for text in ("", GOOD, "identifier,kind,periods,yield,coupon\n" + GOOD):
             self.assert_refused(text, "header")
@@ -821,11 +823,22 @@ class Writing(Folder):
                 self.assertEqual(os.fstat(output.fileno()).st_size, len(data))  # the file that is open, and not another in its place
             self.assertEqual(out.read_bytes(), data)
 
+    def test_a_pipe(self):
+        pipe = self.folder / "pipe"
+        os.mkfifo(pipe)
+        for command, data in self.making(pipe):
+            with subprocess.Popen(["cat", pipe], stdout=subprocess.PIPE) as reader:
+                done = tool(*command)
+                if not stat.S_ISFIFO(os.lstat(pipe).st_mode):
+                    reader.kill()
+                    self.fail("a file took the place of the pipe")
+                self.assertEqual((done.returncode, reader.communicate(timeout=60)[0]), (0, data))
+
     @unittest.skipUnless(os.path.exists("/dev/full"), "a device of Linux")
     def test_a_device_that_is_full(self):
-        for command, _ in self.making("/dev/full"):
-            self.assert_lines(tool(*command), "/dev/full cannot be written: No space left on device")
-        self.assertTrue(stat.S_ISCHR(os.stat("/dev/full").st_mode))
+        """Not as root, who could put a file in the place of the device."""
+        with no_root(), self.assertRaisesRegex(desk.Stop, "^/dev/full cannot be written: No space left on device$"):
+            desk.write_bytes("/dev/full", b"data", [])
 
     def test_files_and_folders_that_are_protected(self):
         out = self.file("out", "old")
@@ -917,6 +930,16 @@ class Damage(Folder):
         for command in [*self.printing(), ["model.py", "--help"]]:
             with open("/dev/full", "wb") as full:
                 self.assert_output_fails(command, output=full)
+
+    @unittest.skipUnless(os.path.exists("/dev/full"), "a device of Linux")
+    def test_warnings_that_cannot_be_said(self):
+        """The exit status is the same without them."""
+        rows = self.file("b.csv", LISTING_BOOK.replace(",4,", ",0.04,"))
+        with open("/dev/full", "wb") as full:
+            for how in ({"errors": full}, {"errors": None, "before": lambda: os.close(2)}):
+                self.assertEqual(tool("book.py", "make", rows, self.folder / "new.bin", **how).returncode, 0)
+                self.assertEqual(tool("model.py", CRATES / "refused_book" / "data", **how).returncode, 3)
+                self.assertEqual(tool("model.py", self.folder, **how).returncode, 1)
 
     def test_output_that_is_closed(self):
         for command in self.printing():
