@@ -148,7 +148,8 @@ class Row:
         """Rates that the rules accept, and that may be in the other unit."""
         coupon, ytm = self.entry.coupon, self.entry.ytm
         if 0 < coupon < LEAST_COUPON:
-            text = f"{coupon!r} is taken as {coupon!r} per 100 of face; a coupon of {100 * coupon:g} percent is written {100 * coupon:g}"
+            percent = f"{100 * coupon:g}"
+            text = f"{coupon!r} is taken as {coupon!r} per 100 of face; a coupon of {percent} percent is written {percent}"
             yield Fault(None, self.number, "coupon", text)
         if MOST_YIELD < ytm <= 1:
             text = f"{ytm!r} is taken as {100 * ytm:g} percent; a yield of {ytm:g} percent is written {ytm / 100:g}"

@@ -1,4 +1,4 @@
-"""What the desk's tools share: files and an output that cannot be read or written, messages in place of tracebacks, exit statuses.
+"""What the desk's tools share: files and outputs that cannot be read or written, messages in place of tracebacks, exit statuses.
 
 For book.py, events.py, model.py and picture.py. It is not run by itself, and needs Python's standard library only.
 """
@@ -179,12 +179,9 @@ def strange(text: str) -> str:
 
 
 def parser(doc: str | None) -> argparse.ArgumentParser:
-    """A tool's parser: the first line and the last paragraph of its docstring, which is about the exit status, are in its help."""
-    return argparse.ArgumentParser(description=(doc or "").partition("\n")[0], epilog=exits(doc))
-
-
-def exits(doc: str | None) -> str:
-    return (doc or "").strip().rpartition("\n\n")[2]
+    """A tool's parser. Its help has the first line of the docstring, and the last paragraph, which is about the exit status."""
+    text = (doc or "").strip()
+    return argparse.ArgumentParser(description=text.partition("\n")[0], epilog=text.rpartition("\n\n")[2])
 
 
 def run(main: collections.abc.Callable[[], int]) -> typing.NoReturn:

@@ -381,8 +381,9 @@ def bonds(history: runs.History, width: float, top: float) -> tuple[list[Element
 
 def hatch() -> Element:
     """The shade of a dead machine's lane."""
-    ground, stroke = tag("rect", width=7, height=7, fill="#e4e5e3"), tag("line", x1=0, y1=0, x2=0, y2=7, stroke="#cfd1ce", stroke_width=2)
-    return tag("defs", tag("pattern", ground, stroke, id="dead", width=7, height=7, patternUnits="userSpaceOnUse", patternTransform="rotate(45)"))
+    parts = tag("rect", width=7, height=7, fill="#e4e5e3"), tag("line", x1=0, y1=0, x2=0, y2=7, stroke="#cfd1ce", stroke_width=2)
+    turned = tag("pattern", *parts, id="dead", width=7, height=7, patternUnits="userSpaceOnUse", patternTransform="rotate(45)")
+    return tag("defs", turned)
 
 
 def drawn(history: runs.History, title: str) -> Element:

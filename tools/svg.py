@@ -6,6 +6,7 @@ import re
 import unicodedata
 from xml.etree.ElementTree import Element, tostring
 
+NAMESPACE = "http://www.w3.org/2000/svg"
 NO_XML = re.compile("[^\t\n\r -\ud7ff\ue000-\ufffd\U00010000-\U0010ffff]")  # the characters that XML has no place for
 NARROWEST = 0.34  # of the widths of characters, where the size is 1
 BOLD = 1.15  # about the width of a bold text, where that of the plain one is 1
@@ -125,7 +126,7 @@ class Pill:
 def picture(width: float, height: float, font: str, title: str, parts: list[Element]) -> Element:
     """The whole picture, a part on each line."""
     w, h = f"{width:.0f}", f"{height:.0f}"
-    root = tag("svg", *tip(title), *parts, xmlns="http://www.w3.org/2000/svg", width=w, height=h, viewBox=f"0 0 {w} {h}", font_family=font)
+    root = tag("svg", *tip(title), *parts, xmlns=NAMESPACE, width=w, height=h, viewBox=f"0 0 {w} {h}", font_family=font)
     root.text = "\n"
     for part in root:
         part.tail = "\n"

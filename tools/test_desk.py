@@ -3,8 +3,9 @@
 
     python3 tools/test_desk.py
 
-It needs Python's standard library only, and writes to a temporary folder. What is expected is document 01's, or was decided
-by other programs: the books of book_cases with their numbers, the page of the sample close.
+It needs Python's standard library only, and writes to a temporary folder. Where mypy (Debian: mypy) is there it checks the
+annotations, where cargo is there it builds what bench/run load needs. What is expected is document 01's, or was decided by
+other programs: the books of book_cases with their numbers, the prices of the sample close.
 """
 import contextlib
 import math
@@ -40,6 +41,8 @@ PICTURES = {  # those of docs/, with their titles
 }
 
 ANNOTATED = ["book.py", "book_bytes.py", "desk.py", "events.py", "history.py", "make_sample.py", "model.py", "picture.py", "svg.py", "vector_files.py"]
+
+SVG_TEXT = "{http://www.w3.org/2000/svg}text"  # by the standard
 
 HEADER = "identifier,kind,periods,coupon,yield\n"
 GOOD = "ZZ0000000016,fixed,2,4,0\n"
@@ -354,7 +357,7 @@ class Books(Folder):
                 ("ZZ0000000016,fixed,2,4,", "row 2, column yield"), ("ZZ0000000016,fixed,2,4", "row 2: 4 cells"),
                 ("ZZ0000000016,fixed," + "9" * 5000 + ",4,0", "row 2, column periods"), ('"ZZ0000000016', "not a CSV file: line 2: "),
                 ("ZZ0000000016,fixed,2, ,0", "row 2, column coupon: an empty cell is not a number"),
-                ("ZZ0000000016,fixed,2,4,0\u2024\u0665", "row 2, column yield: '0\u2024\u0665' is not a number: character 2 is one dot leader (U+2024)")):
+                ("ZZ0000000016,fixed,2,4,0\u20245", "row 2, column yield: '0\u20245' is not a number: character 2 is one dot leader (U+2024)")):
             self.assert_refused(HEADER + row + "\n", words)
         for text in ("", GOOD, "identifier,kind,periods,yield,coupon\n" + GOOD):
             self.assert_refused(text, "header")
@@ -507,8 +510,8 @@ class Model(Folder):
             self.assertEqual(struct.pack(">d", float(decimal)).hex().upper(), bits)
 
     def test_prices(self):
-        for terms, price in (((book_bytes.FIXED, 2, 0, 4.0, 0.0), 104), ((book_bytes.ZERO, 2, 0, 0.0, 0.5), 64), ((book_bytes.FIXED, 1, 0, 10.0, 0.5), 84)):
-            self.assertEqual(model.price_of(book_bytes.Entry(b"ZZ0000000016", *terms)), price)
+        terms = [(book_bytes.FIXED, 2, 0, 4.0, 0.0), (book_bytes.ZERO, 2, 0, 0.0, 0.5), (book_bytes.FIXED, 1, 0, 10.0, 0.5)]
+        self.assertEqual([model.price_of(entry) for entry in entries_of(terms)], [104, 64, 84])
 
     def table(self, text, machines=3):
         """The table after a list of events, all of which are accepted."""
@@ -643,7 +646,7 @@ class Picture(Folder):
     def drawn(self, data, found):
         """The words of a picture, which is well-formed."""
         tree = xml.etree.ElementTree.fromstring(svg.document(picture.picture(data, found)))
-        return ["".join(node.itertext()) for node in tree.iter("{http://www.w3.org/2000/svg}text")]
+        return ["".join(node.itertext()) for node in tree.iter(SVG_TEXT)]
 
     def assert_complete(self, data, found):
         machines, entries = book_bytes.parts(data)
@@ -692,7 +695,7 @@ class Picture(Folder):
         data = book.make(LISTING_BOOK)
         for title in ("A long title of a run " * 9, "\u503a" * 80, "i" * 100000):
             tree = xml.etree.ElementTree.fromstring(svg.document(picture.picture(data, b"", title)))
-            shown = next(tree.iter("{http://www.w3.org/2000/svg}text"))
+            shown = next(tree.iter(SVG_TEXT))
             self.assertTrue(shown.text.endswith("\u2026") and title.startswith(shown.text[:-1]))
             self.assertLess(float(shown.get("x")) + svg.width_of(shown.text, svg.BOLD * 21), float(tree.get("width")) - 20)
             self.assertGreater(len(shown.text), 30)
@@ -705,7 +708,7 @@ class Picture(Folder):
         bonds = entries_of(terms)
         found = "".join(f"admit {i}\nstart 0 job {i}\ndone 0\ndeliver 0 to 0\n" for i in range(len(terms)))
         tree = xml.etree.ElementTree.fromstring(svg.document(picture.picture(book_bytes.book_of(2, bonds), events.make(found))))
-        texts = {node.text: node for node in tree.iter("{http://www.w3.org/2000/svg}text")}
+        texts = {node.text: node for node in tree.iter(SVG_TEXT)}
         self.assertIn(f"coupon {100 / 3!r}, 240 half-years at {1 / 3!r}", texts)
         self.assertIn("coupon 2.2250738585072014e-308, 240 half-years at 1.2345678901234568e-300", texts)
         end = {words: float(node.get("x")) + svg.width_of(words, float(node.get("font-size"))) for words, node in texts.items() if words}
@@ -842,7 +845,8 @@ class Writing(Folder):
 
     def test_files_and_folders_that_are_protected(self):
         out = self.file("out", "old")
-        for file_mode, folder_mode, words in ((0o444, 0o777, "out cannot be written: Permission denied"), (0o666, 0o555, "takes no new file: Permission denied")):
+        for file_mode, folder_mode, words in ((0o444, 0o777, "out cannot be written: Permission denied"),
+                                              (0o666, 0o555, "takes no new file: Permission denied")):
             out.chmod(file_mode)
             self.folder.chmod(folder_mode)
             with no_root(), self.assertRaisesRegex(desk.Stop, words):
@@ -887,6 +891,14 @@ class Bench(Folder):
 
 
 class Damage(Folder):
+    def test_help(self):
+        """It tells the exit statuses."""
+        for command in (["book.py"], ["book.py", "make"], ["book.py", "show"], ["events.py"], ["events.py", "make"], ["events.py", "show"],
+                        ["model.py"], ["picture.py"]):
+            shown = " ".join(tool(*command, "--help").stdout.decode().split())
+            self.assertRegex(shown, "The exit status is 0 where .* 1 where .* 2 for a wrong command")
+            self.assertEqual("3 where the book is refused" in shown, command[0] != "events.py")
+
     def test_files_that_cannot_be_read_or_written(self):
         none, good = self.folder / "none", self.file("good.csv", LISTING_BOOK)
         lines = self.file("e.txt", LISTING_EVENTS)
