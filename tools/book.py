@@ -28,7 +28,7 @@ show prints the CSV of a book, from which make makes the same bytes again where 
 bytes that a CSV does not hold, as a spare byte that is not 0.
 
 The exit status is 0 where the book is written or shown, by --anyway a faulty one too; 1 where a file cannot be read or
-written, or where a cell or comment has no meaning; 2 for a wrong command; 3 where the book is refused or would be.
+written, or where all that is wrong is text without a meaning; 2 for a wrong command; 3 where the book is refused or would be.
 """
 import argparse
 import collections.abc
