@@ -40,7 +40,7 @@ FATES = {
     runs.DELIVERED: "delivered", runs.DROPPED: "dropped", runs.LOST: "lost, for it goes to a dead machine",
     runs.IN_FLIGHT: "in flight at the end",
 }
-TICK, TIMES, ARROW = "\u2713", "\u00d7", "\u2192"
+TICK, TIMES = "\u2713", "\u00d7"
 
 MARGIN = 28
 LEAST = 1120  # width of the picture
