@@ -18,8 +18,11 @@ A line is an event; what follows a # is a comment, and empty lines are skipped:
     raw 9 9 9         any three bytes; as the last line one or two
 
 Words are lower case and a number is 0 to 255; whether the dispatcher accepts the event is for the program to say. make writes
-nothing where a line is no event, and names each such line. show prints any events.bin so that make makes the same bytes of it,
-with event k on line k. The program reads no more than the first 60,000 bytes.
+nothing where a line is no event, and names such lines, the first 20 of them. show prints any events.bin so that make makes the
+same bytes of it, with event k on line k. The program reads no more than the first 60,000 bytes.
+
+The exit status is 0 where the list is written or shown, 1 where a file cannot be read or written or a line is no event, 2 for
+a wrong command.
 """
 import argparse
 import re
@@ -27,38 +30,47 @@ import re
 import desk
 
 WORDS = {  # document 01, "Events are three bytes: code, a, b. An unused b is 0."
-    1: "admit {}",
-    2: "steal {} from {}",
-    3: "deliver {} to {}",
-    4: "start {} job {}",
-    5: "done {}",
-    6: "die {}",
-    7: "notice {} of {}",
+    1: "admit ENTRY",
+    2: "steal MACHINE from MACHINE",
+    3: "deliver MACHINE to MACHINE",
+    4: "start MACHINE job ENTRY",
+    5: "done MACHINE",
+    6: "die MACHINE",
+    7: "notice MACHINE of MACHINE",
 }
-RAW = "raw {} {} {}"
-FORMS = {form.split()[0]: form.replace("{}", "N") for form in [*WORDS.values(), RAW]}  # by the first word
+RAW = "raw BYTE BYTE BYTE"
+NUMBERS = {
+    "ENTRY": "an entry number 0 to 255: the bond's place in the book, counted from 0",
+    "MACHINE": "a machine number 0 to 255: machines are counted from 0, the root",
+    "BYTE": "a byte 0 to 255",
+}
+FORMS = {form.split()[0]: form for form in [*WORDS.values(), RAW]}  # by the first word
+PATTERNS = {code: re.compile(re.sub("[A-Z]+", "([0-9]+)", form)) for code, form in WORDS.items()}
 MOST_READ = 60000  # bytes
 
 
-def events_of(data):
+def events_of(data: bytes) -> list[bytes]:
     """The events of a file: three bytes each, and what is left over."""
     return [data[at:at + 3] for at in range(0, len(data), 3)]
 
 
-def names_event(event):
+def names_event(event: bytes) -> bool:
     """Whether a word of the list stands for these bytes."""
-    return len(event) == 3 and event[0] in WORDS and (event[2] == 0 or WORDS[event[0]].count("{}") == 2)
+    return len(event) == 3 and event[0] in WORDS and (event[2] == 0 or PATTERNS[event[0]].groups == 2)
 
 
-def text_of(event):
-    return WORDS[event[0]].format(*event[1:]) if names_event(event) else "raw " + " ".join(map(str, event))
+def text_of(event: bytes) -> str:
+    if not names_event(event):
+        return " ".join(["raw", *map(str, event)])
+    numbers = iter(event[1:])
+    return re.sub("[A-Z]+", lambda _: str(next(numbers)), WORDS[event[0]])
 
 
-def event_of(line):
+def event_of(line: str) -> bytes:
     """The bytes of a line without its comment. A ValueError says why it has none."""
     words = " ".join(line.split())
-    for code, form in WORDS.items():
-        found = re.fullmatch(form.replace("{}", "([0-9]+)"), words)
+    for code, pattern in PATTERNS.items():
+        found = pattern.fullmatch(words)
         if found:
             return bytes([code, *map(byte_of, found.groups()), 0][:3])
     if re.fullmatch("raw( [0-9]+){1,3}", words):
@@ -66,25 +78,36 @@ def event_of(line):
     raise ValueError(why_none(words))
 
 
-def byte_of(digits):
+def byte_of(digits: str) -> int:
     digits = digits.lstrip("0") or "0"
     if len(digits) > 3 or int(digits) > 255:
-        raise ValueError(f"{digits} is above 255")
+        raise ValueError(f"{desk.quoted(digits)} is above 255")
     return int(digits)
 
 
-def why_none(words):
+def why_none(words: str) -> str:
     """What is wrong with words that have the form of no event."""
     first = words.split()[0]
-    if first.lower() not in FORMS:
-        return f"{first!r} is none of " + ", ".join(FORMS)
-    if words != words.lower():
-        return "words are lower case"
-    fewer = ", or with fewer N as the last line" if first == "raw" else ""
-    return f"it is written {FORMS[first]}{fewer}, and N is 0 to 255"
+    form = FORMS.get(first.lower())
+    if form is None:
+        return f"{desk.quoted(first)} is none of " + ", ".join(FORMS)
+    if words != words.lower() and is_event(words.lower()):
+        return f"words are lower case; did you mean {words.lower()}?"
+    for word, meant in zip(words.split(), form.split()):
+        if meant in NUMBERS and not re.fullmatch("[0-9]+", word):
+            return f"{desk.quoted(word)} is not {NUMBERS[meant]}"
+    fewer = ", or with fewer bytes as the last line" if form == RAW else ""
+    return f"it is written {form}{fewer}, in numbers 0 to 255"
 
 
-def make(text):
+def is_event(words: str) -> bool:
+    try:
+        return len(event_of(words)) == 3
+    except ValueError:
+        return False
+
+
+def make(text: str) -> bytes:
     """The bytes of a list."""
     lines = [(place, line.split("#")[0].strip()) for place, line in enumerate(re.split("\r\n|\r|\n", text), 1)]
     lines = [(place, line) for place, line in lines if line]
@@ -93,51 +116,50 @@ def make(text):
         try:
             events.append(event_of(line))
         except ValueError as fault:
-            faults.append(f"line {place}: {line!r} is no event: {fault}")
+            faults.append(f"line {place}: {desk.quoted(line)} is no event: {fault}{desk.strange(line)}")
             continue
         if len(events[-1]) < 3 and place != lines[-1][0]:
             faults.append(f"line {place}: only the last line may have fewer than three bytes")
     if faults:
-        raise desk.Stop("\n".join(faults))
+        raise desk.Stop(desk.listed(faults, "fault"))
     return b"".join(events)
 
 
-def show(data):
+def show(data: bytes) -> str:
     return "".join(text_of(event) + "\n" for event in events_of(data))
 
 
-def warn_of_length(data):
+def warn_of_length(data: bytes) -> None:
     if len(data) > MOST_READ:
         desk.warn(f"{len(data)} bytes: the program reads the first {MOST_READ}")
 
 
-def command_make(args):
-    try:
+def command_make(args: argparse.Namespace) -> None:
+    with desk.making(args.events):
         data = make(desk.read_text(args.list))
-    except desk.Stop as stop:
-        raise desk.Stop(f"{stop}\n{desk.not_written(args.events)}") from None
     desk.write_bytes(args.events, data, [args.list])
     warn_of_length(data)
 
 
-def command_show(args):
+def command_show(args: argparse.Namespace) -> None:
     data = desk.read_bytes(args.events)
     desk.say(show(data))
     warn_of_length(data)
 
 
-def main():
-    parser = argparse.ArgumentParser(description="A list of events as text and as events.bin.")
+def main() -> int:
+    parser = desk.parser(__doc__)
     commands = parser.add_subparsers(required=True, metavar="make|show")
-    making = commands.add_parser("make", help="make events.bin from a list")
+    making = commands.add_parser("make", help="make events.bin from a list", epilog=parser.epilog)
     making.add_argument("list", metavar="LIST.txt")
     making.add_argument("events", metavar="events.bin")
     making.set_defaults(command=command_make)
-    showing = commands.add_parser("show", help="print events.bin as a list")
+    showing = commands.add_parser("show", help="print events.bin as a list", epilog=parser.epilog)
     showing.add_argument("events", metavar="events.bin")
     showing.set_defaults(command=command_show)
     args = parser.parse_args()
     args.command(args)
+    return desk.DONE
 
 
 if __name__ == "__main__":

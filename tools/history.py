@@ -5,14 +5,18 @@ It is not run by itself, and needs Python's standard library only.
 Time is counted in rows: event k of the list is row k - 1, and what an event changes has changed from its row on. What lasts
 to the end of the list ends at the row after the last.
 """
+import collections.abc
 import dataclasses
 import typing
 
+import book_bytes as books
 import events as lists
 import model
 
 POOL, RESERVED, RUNNING = "pool", "reserved", "running"
 DELIVERED, DROPPED, LOST, IN_FLIGHT = "delivered", "dropped", "lost", "in flight"
+
+CopyKey = tuple[int, int, int]  # machine, job, replica
 
 
 class Row(typing.NamedTuple):
@@ -20,7 +24,7 @@ class Row(typing.NamedTuple):
     text: str
     number: int  # of its refusal, or 0
     note: str  # what it did, or why it was refused
-    machine: typing.Optional[int]  # whose event it is
+    machine: int | None  # whose event it is
 
 
 class Copy(typing.NamedTuple):
@@ -51,13 +55,18 @@ class Flight:
     priced: bool = False
 
 
-class Spans:
+Key = typing.TypeVar("Key", int, CopyKey)
+Value = typing.TypeVar("Value", int, str)
+
+
+class Spans(typing.Generic[Key, Value]):
     """Values that last: of each key, from when to when it had a value."""
 
-    def __init__(self):
-        self.now, self.closed = {}, []
+    def __init__(self) -> None:
+        self.now: dict[Key, tuple[Value, int]] = {}
+        self.closed: list[tuple[Key, Value, int, int]] = []
 
-    def update(self, row, values):
+    def update(self, row: int, values: collections.abc.Mapping[Key, Value]) -> None:
         for key, (value, start) in list(self.now.items()):
             if values.get(key) != value:
                 self.closed.append((key, value, start, row))
@@ -65,23 +74,23 @@ class Spans:
         for key, value in values.items():
             self.now.setdefault(key, (value, row))
 
-    def all(self, row):
+    def all(self, row: int) -> list[tuple[Key, Value, int, int]]:
         """Closes what is left."""
         self.update(row, {})
         return sorted(self.closed, key=lambda span: (span[2], span[0]))
 
 
-def label(message):
-    return message.kind if message.job is None else f"{message.kind} {copy_label(message.job, message.replica)}"
+def label(message: model.Message) -> str:
+    return f"{message.kind} {copy_label(message.job, message.replica)}" if message.replica else message.kind
 
 
-def copy_label(job, replica):
+def copy_label(job: int, replica: int) -> str:
     """Job 3 with replica 1 is 3, with replica 2 it is 3/2."""
     return str(job) if replica == 1 else f"{job}/{replica}"
 
 
-def held(table):
-    """The state of each copy: a pair of machine, job and replica to its state."""
+def held(table: model.Table) -> dict[CopyKey, str]:
+    """The state of each copy."""
     copies = {}
     for number, machine in enumerate(table.machines):
         copies.update({(number, job, replica): POOL for job, replica in machine.pool.items()})
@@ -92,9 +101,10 @@ def held(table):
     return copies
 
 
-def stays(copies):
+def stays(copies: list[Copy]) -> list[list[Copy]]:
     """The copies of one job and replica that follow on one another on one machine, as lists."""
-    last, found = {}, []
+    last: dict[CopyKey, list[Copy]] = {}
+    found = []
     for copy in copies:  # in the order of their starts
         key = (copy.machine, copy.job, copy.replica)
         if key in last and last[key][-1].end == copy.start:
@@ -105,12 +115,11 @@ def stays(copies):
     return found
 
 
-def joined(labels):
-    labels = list(labels)
+def joined(labels: list[str]) -> str:
     return " ".join(labels[:6]) + (f" and {len(labels) - 6} more" if len(labels) > 6 else "")
 
 
-def sending(log):
+def sending(log: list[tuple[str, model.Message]]) -> str:
     """What was sent, as the end of a note."""
     for word, message in log:
         if word == "sent":
@@ -120,7 +129,7 @@ def sending(log):
     return ""
 
 
-def note_of(event, table, before):
+def note_of(event: bytes, table: model.Table, before: collections.abc.Iterable[CopyKey]) -> str:
     """What an accepted event did, in a few words."""
     name, a = model.EVENTS[event[0] - 1], event[1]
     dropped = sum(word == "dropped" for word, _ in table.log)
@@ -133,12 +142,12 @@ def note_of(event, table, before):
         lost = [copy_label(job, replica) for machine, job, replica in sorted(before) if machine == a]
         return ", ".join(([f"holding {joined(lost)}"] if lost else []) + tail)
     if name == "notice":
-        again = [copy_label(job, table.jobs[job].replica) for word, job in table.log if word == "again"]
+        again = [copy_label(job, table.jobs[job].replica) for job in table.again]
         return ", ".join(([f"{joined(again)} back on 0"] if again else []) + tail)
     return sending(table.log)
 
 
-def delivery_note(table):
+def delivery_note(table: model.Table) -> str:
     """The message that was delivered, and what came of it."""
     message = next(what for word, what in table.log if word == "delivered")
     words = [word for word, _ in table.log]
@@ -153,7 +162,7 @@ def delivery_note(table):
     return f"{label(message)} \u2192 {sending(table.log)}"
 
 
-def machine_of(event, table):
+def machine_of(event: bytes, table: model.Table) -> int | None:
     """The machine whose event it is, where there is such a machine: the receiver of a delivery, the root of an admission."""
     if not lists.names_event(event):
         return None
@@ -165,12 +174,20 @@ def machine_of(event, table):
 class History:
     """A whole run over an accepted book."""
 
-    def __init__(self, machines, entries, events):
+    def __init__(self, machines: int, entries: list[books.Entry], events: bytes) -> None:
         self.table = model.Table(machines, entries)
-        self.rows, self.flights, self.deaths, self.notices = [], [], {}, []
-        self.flying = {}  # message to its flight
-        copies, waits, before = Spans(), Spans(), {}
-        for row, event in enumerate(lists.events_of(events)):
+        self.rows: list[Row] = []
+        self.flights: list[Flight] = []
+        self.deaths: dict[int, int] = {}  # machine to the row where it dies
+        self.notices: list[tuple[int, int, int]] = []  # row, machine, dead machine
+        self.flying: dict[model.Message, Flight] = {}
+        self.take_all(lists.events_of(events))
+
+    def take_all(self, events: list[bytes]) -> None:
+        copies: Spans[CopyKey, str] = Spans()
+        waits: Spans[int, int] = Spans()
+        before: dict[CopyKey, str] = {}
+        for row, event in enumerate(events):
             self.take(row, event, before)
             before = held(self.table)
             copies.update(row, before)
@@ -181,7 +198,7 @@ class History:
         self.copies = [Copy(*key, state, start, stop) for key, state, start, stop in copies.all(end)]
         self.waits = [Wait(key, victim, start, stop) for key, victim, start, stop in waits.all(end)]
 
-    def take(self, row, event, before):
+    def take(self, row: int, event: bytes, before: collections.abc.Iterable[CopyKey]) -> None:
         number, condition = self.table.step(event)
         note = condition if number else note_of(event, self.table, before)
         self.rows.append(Row(lists.text_of(event), number, note, machine_of(event, self.table)))
@@ -191,7 +208,7 @@ class History:
         if number == 0 and event[0] == 7:
             self.notices.append((row, event[1], event[2]))
 
-    def follow(self, row):
+    def follow(self, row: int) -> None:
         """Brings the flights up to date by the table's log."""
         delivered = None
         for word, what in self.table.log:

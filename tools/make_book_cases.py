@@ -5,8 +5,9 @@ To run, at the root of the repository: /usr/bin/python3 tools/make_book_cases.py
 It needs Python's standard library only (last run with Python 3.11).
 
 The functions of the first part implement document 01's "The book", "The identifier" and "The price", and the rows Book and Lowest faulty
-entry of its table of refusals. They share nothing with the crates. Each case that is not random has its number stated beside it; the
-script fails where these functions have another.
+entry of its table of refusals. They share nothing with the crates, nor with book_bytes.py of the desk's tools, which has the same rules:
+what they decide tests both (test_desk.py for the latter), and no reading of document 01 tests itself. Each case that is not random has
+its number stated beside it; the script fails where these functions have another.
 
 The result depends on nothing else: the random choices have a fixed seed.
 """

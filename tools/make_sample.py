@@ -1,318 +1,210 @@
 #!/usr/bin/python3
-"""Writes the data and the output of the programs rakhvide and sample_close.
+"""Writes the data and the output of the programs that print a page: rakhvide, sample_close and four more.
 
 To run, at the root of the repository: /usr/bin/python3 tools/make_sample.py
 It needs Python's standard library only (last run with Python 3.11).
 
-rakhvide gets the listing of document 01, "Examples", with the output printed there. sample_close gets a book of 20 municipal and corporate bonds and
-a list of events in which three machines steal from the root and from each other, one of them dies with bonds in hand, its bonds come back
-under the next replica number, and every bond is priced in the end. A few events of the list are refused.
+Each is the same program on other data:
 
-The class Dispatcher implements "The table" and the rows of the seven events of document 01. It shares nothing with the crates. Prices are computed in
-exact rational arithmetic whose every operation is rounded once to the nearest binary64, ties to even. The script fails where its Dispatcher
-prints another text for the listing than document 01 does.
+    rakhvide       the listing of document 01, "Examples", with the output printed there
+    sample_close   a book of 20 municipal and corporate bonds, and a list of events in which three machines steal from the root and
+                   from each other, one of them dies with bonds in hand, its bonds come back under the next replica number, and
+                   every bond is priced in the end; a few events of the list are refused
+    no_files       neither book.bin nor events.bin
+    refused_book   a book whose second entry has a wrong check digit and whose third has another form
+    long_list      20,000 events, of which the last is refused, and two more that are not read
+    broken_event   a last event of two bytes
 
-The bonds are invented; their identifiers have the form and the check digit of ISO 6166. The result depends on nothing else: the random choices have
-a fixed seed.
+The events of sample_close are chosen at random, with a fixed seed, by way of the table of model.py, which is document 01 in Python
+and shares nothing with the crates; its page is the model's, but the prices are decided by exact rational arithmetic whose every
+operation is rounded once to the nearest binary64, ties to even. The other pages are written here by hand from document 01's text,
+"The program's page". The script fails where a price or a page of the model differs.
+
+The bonds are invented; their identifiers have the form and the check digit of ISO 6166. The result depends on nothing else.
 """
 import random
-import struct
+import typing
 from fractions import Fraction
 
+import book_bytes as books
+import events as lists
+import model
+from book_bytes import FIXED, ZERO, Entry
 from vector_files import ROOT, fail_unless
 
-ZERO, FIXED = 1, 2  # the two kinds
-DOUBLED = [0, 2, 4, 6, 8, 1, 3, 5, 7, 9]
-ROOT_MACHINE = 0
-MOST_IN_FLIGHT = 128
-NOT_ADMITTED, OPEN, PRICED = 0, 1, 2
 
+def entry(base: str, kind: int, periods: int, coupon: float, ytm: float) -> Entry:
+    """The entry of an identifier's first eleven characters, half-years, annual coupon, annual yield."""
+    return Entry(books.with_check_digit(base.encode("ascii")), kind, periods, 0, coupon, ytm)
+
+
+LISTING_BONDS = [entry("ZZ000000001", FIXED, 2, 4.0, 0.0), entry("ZZ000000002", ZERO, 2, 0.0, 0.5)]
+LISTING_EVENTS = bytes([1, 0, 0, 2, 1, 0, 3, 1, 0, 3, 0, 0, 3, 0, 0, 3, 0, 1, 4, 1, 0, 5, 1, 0, 3, 1, 0, 3, 1, 0, 6, 0, 0])
 LISTING = """event 11 refused 20
 ZZ0000000016 priced 405A000000000000 replica 1
 ZZ0000000024 not admitted
 """
-LISTING_BONDS = [("ZZ000000001", FIXED, 2, 4.0, 0.0), ("ZZ000000002", ZERO, 2, 0.0, 0.5)]
-LISTING_EVENTS = [(1, 0, 0), (2, 1, 0), (3, 1, 0), (3, 0, 0), (3, 0, 0), (3, 0, 1), (4, 1, 0), (5, 1, 0), (3, 1, 0), (3, 1, 0), (6, 0, 0)]
 
-# The first eleven characters, kind, half-years, annual coupon, annual yield.
 SAMPLE_BONDS = [
-    ("USMUN001301", FIXED, 40, 5.0, 0.0385),
-    ("USMUN001318", FIXED, 20, 4.0, 0.0342),
-    ("USMUN001335", FIXED, 60, 5.25, 0.0431),
-    ("USMUN001352", FIXED, 10, 3.0, 0.0298),
-    ("USMUN001369", ZERO, 30, 0.0, 0.0377),
-    ("USMUN001386", ZERO, 24, 0.0, 0.0361),
-    ("USMUN001403", FIXED, 50, 4.5, 0.0402),
-    ("USMUN001420", FIXED, 34, 5.5, 0.0489),
-    ("USMUN001437", FIXED, 26, 4.0, 0.0355),
-    ("USMUN001454", FIXED, 48, 5.0, 0.0394),
-    ("USMUN001471", ZERO, 40, 0.0, 0.0418),
-    ("USCRP002660", FIXED, 120, 6.875, 0.0575),
-    ("USCRP002683", FIXED, 14, 3.3, 0.0441),
-    ("USCRP002706", FIXED, 8, 2.375, 0.0427),
-    ("USCRP002729", FIXED, 58, 4.7, 0.0512),
-    ("USCRP002752", FIXED, 30, 4.75, 0.0465),
-    ("USCRP002775", FIXED, 16, 5.717, 0.0533),
-    ("USCRP002798", FIXED, 22, 2.355, 0.0478),
-    ("XSCRP005641", FIXED, 12, 1.875, 0.0325),
-    ("XSCRP005670", ZERO, 18, 0.0, 0.0349),
+    entry("USMUN001301", FIXED, 40, 5.0, 0.0385),
+    entry("USMUN001318", FIXED, 20, 4.0, 0.0342),
+    entry("USMUN001335", FIXED, 60, 5.25, 0.0431),
+    entry("USMUN001352", FIXED, 10, 3.0, 0.0298),
+    entry("USMUN001369", ZERO, 30, 0.0, 0.0377),
+    entry("USMUN001386", ZERO, 24, 0.0, 0.0361),
+    entry("USMUN001403", FIXED, 50, 4.5, 0.0402),
+    entry("USMUN001420", FIXED, 34, 5.5, 0.0489),
+    entry("USMUN001437", FIXED, 26, 4.0, 0.0355),
+    entry("USMUN001454", FIXED, 48, 5.0, 0.0394),
+    entry("USMUN001471", ZERO, 40, 0.0, 0.0418),
+    entry("USCRP002660", FIXED, 120, 6.875, 0.0575),
+    entry("USCRP002683", FIXED, 14, 3.3, 0.0441),
+    entry("USCRP002706", FIXED, 8, 2.375, 0.0427),
+    entry("USCRP002729", FIXED, 58, 4.7, 0.0512),
+    entry("USCRP002752", FIXED, 30, 4.75, 0.0465),
+    entry("USCRP002775", FIXED, 16, 5.717, 0.0533),
+    entry("USCRP002798", FIXED, 22, 2.355, 0.0478),
+    entry("XSCRP005641", FIXED, 12, 1.875, 0.0325),
+    entry("XSCRP005670", ZERO, 18, 0.0, 0.0349),
 ]
 SAMPLE_MACHINES = 4
 DYING = 2
 
 
-def with_check_digit(base):
-    digits = [int(d) for character in base for d in str(int(character, 36))]
-    total = sum(DOUBLED[d] if place % 2 == 0 else d for place, d in enumerate(reversed(digits)))
-    return base + str(-total % 10)
+class Program(typing.NamedTuple):
+    """A crate, the content of its files, and its page."""
+    crate: str
+    book: bytes | None
+    events: bytes | None
+    page: str
 
 
-def book_of(machines, bonds):
-    names = "".join(with_check_digit(b[0]) for b in bonds).encode("ascii")
-    terms = b"".join(struct.pack("<BBBdd", kind, periods, 0, coupon, ytm) for _, kind, periods, coupon, ytm in bonds)
-    return struct.pack("<HH", machines, len(bonds)) + names + terms
+# The pages by hand.
 
 
-def rounded(x):
+def listing() -> Program:
+    return Program("rakhvide", books.book_of(2, LISTING_BONDS), LISTING_EVENTS, LISTING)
+
+
+def no_files() -> Program:
+    """A file that cannot be opened counts as empty, and a book has 4 bytes at least."""
+    return Program("no_files", None, None, "book refused 1\n")
+
+
+def refused_book() -> Program:
+    """The number is that of the lowest faulty entry, and nothing more is printed, though event 3 would be refused."""
+    first, second = LISTING_BONDS
+    bonds = [first, second._replace(identifier=b"ZZ0000000025"), second._replace(identifier=b"ZZ000000016 ")]
+    return Program("refused_book", books.book_of(2, bonds), lists.make("admit 0\nsteal 1 from 0\ndie 0\n"), "book refused 5\n")
+
+
+def long_list() -> Program:
+    """At most 60,000 bytes are read: event 20,000 has its line, and the two events after it have none and admit no bond."""
+    idle = "steal 1 from 0\ndeliver 1 to 0\ndeliver 0 to 1\n"  # FISH, and NOWORK from an empty pool
+    text = 6666 * idle + "steal 1 from 0\ndie 0\n" + "admit 0\ndie 0\n"
+    page = "event 20000 refused 20\nZZ0000000016 not admitted\n"
+    return Program("long_list", books.book_of(2, LISTING_BONDS[:1]), lists.make(text), page)
+
+
+def broken_event() -> Program:
+    """An event of too few bytes is refused 10: 1 1 is not the admission of the second bond."""
+    page = "event 4 refused 10\nZZ0000000016 open replica 1\nZZ0000000024 not admitted\n"
+    text = "admit 0\nsteal 1 from 0\ndeliver 1 to 0\nraw 1 1\n"
+    return Program("broken_event", books.book_of(2, LISTING_BONDS), lists.make(text), page)
+
+
+# The sample close.
+
+
+def rounded(x: Fraction) -> float:
     """The binary64 nearest to a rational, ties to even: Python divides two integers so."""
     return x.numerator / x.denominator
 
 
-def price(kind, periods, coupon, ytm):
-    d = rounded(1 + Fraction(rounded(Fraction(ytm) / 2)))
-    half = rounded(Fraction(coupon) / 2)
+def exact_price(bond: Entry) -> float:
+    d = rounded(1 + Fraction(rounded(Fraction(bond.ytm) / 2)))
+    half = rounded(Fraction(bond.coupon) / 2)
     p = 100.0
-    for _ in range(periods):
-        if kind == FIXED:
+    for _ in range(bond.periods):
+        if bond.kind == FIXED:
             p = rounded(Fraction(p) + Fraction(half))
         p = rounded(Fraction(p) / Fraction(d))
-    return struct.unpack("<Q", struct.pack("<d", p))[0]
+    return p
 
 
-class Dispatcher:
-    def __init__(self, machines, bonds):
-        self.bonds = bonds
-        self.machines = range(machines)
-        self.jobs = [{"state": NOT_ADMITTED, "replica": 0, "place": None, "price": 0} for _ in bonds]
-        self.alive = [True] * machines
-        self.told = [set() for _ in self.machines]
-        self.pool = [{} for _ in self.machines]  # job to replica
-        self.reserved = [None] * machines  # (job, replica, thief)
-        self.running = [None] * machines  # (job, replica)
-        self.waits = [None] * machines
-        self.flight = []  # (from, to, kind, what it carries)
-
-    def send(self, sender, to, kind, *carried):
-        if self.alive[to]:
-            self.flight.append((sender, to, kind, carried))
-
-    def add(self, m, job, replica):
-        self.pool[m][job] = max(replica, self.pool[m].get(job, 0))
-
-    def event(self, code, a, b):
-        """0, or the number of the refusal."""
-        if code not in range(1, 8) or code in (1, 5, 6) and b != 0:
-            return 10
-        first = len(self.bonds) if code == 1 else len(self.machines)
-        second = len(self.bonds) if code == 4 else len(self.machines)
-        if a >= first or b >= second and code not in (1, 5, 6):
-            return 11
-        return [self.admit, self.steal, self.deliver, self.start, self.done, self.die, self.notice][code - 1](a, b)
-
-    def admit(self, a, _):
-        if self.jobs[a]["state"] != NOT_ADMITTED:
-            return 13
-        self.jobs[a].update(state=OPEN, replica=1, place=("on", ROOT_MACHINE))
-        self.add(ROOT_MACHINE, a, 1)
-        return 0
-
-    def steal(self, a, b):
-        if not self.alive[a]:
-            return 12
-        if a == b or self.waits[a] is not None or b in self.told[a]:
-            return 14
-        if len(self.flight) == MOST_IN_FLIGHT:
-            return 16
-        self.waits[a] = b
-        self.send(a, b, "FISH")
-        return 0
-
-    def deliver(self, a, b):
-        for i, (sender, to, kind, carried) in enumerate(self.flight):
-            if (sender, to) == (a, b):
-                del self.flight[i]
-                getattr(self, kind.lower())(a, b, *carried)
-                return 0
-        return 15
-
-    def start(self, a, b):
-        if not self.alive[a]:
-            return 12
-        if self.running[a] is not None:
-            return 17
-        if b not in self.pool[a]:
-            return 18
-        self.running[a] = (b, self.pool[a].pop(b))
-        return 0
-
-    def done(self, a, _):
-        if not self.alive[a]:
-            return 12
-        if self.running[a] is None:
-            return 19
-        if len(self.flight) == MOST_IN_FLIGHT:
-            return 16
-        job, replica = self.running[a]
-        self.running[a] = None
-        self.send(a, ROOT_MACHINE, "RESULT", job, replica, price(*self.bonds[job][1:]))
-        return 0
-
-    def die(self, a, _):
-        if a == ROOT_MACHINE:
-            return 20
-        if not self.alive[a]:
-            return 12
-        self.alive[a] = False
-        self.pool[a], self.reserved[a], self.running[a], self.waits[a] = {}, None, None, None
-        self.flight = [m for m in self.flight if m[1] != a]
-        return 0
-
-    def notice(self, a, b):
-        if not self.alive[a]:
-            return 12
-        if self.alive[b]:
-            return 21
-        if b in self.told[a]:
-            return 22
-        self.told[a].add(b)
-        self.flight = [m for m in self.flight if m[:2] != (b, a)]
-        if self.waits[a] == b:
-            self.waits[a] = None
-        if self.reserved[a] is not None and self.reserved[a][2] == b:
-            self.give_back(a)
-        if a == ROOT_MACHINE:
-            for number, job in enumerate(self.jobs):
-                if job["state"] == OPEN and b in job["place"][1:]:
-                    job.update(replica=job["replica"] + 1, place=("on", ROOT_MACHINE))
-                    self.add(ROOT_MACHINE, number, job["replica"])
-        return 0
-
-    def give_back(self, m):
-        job, replica, _ = self.reserved[m]
-        self.reserved[m] = None
-        self.add(m, job, replica)
-
-    def fish(self, thief, m):
-        if self.reserved[m] is not None or not self.pool[m]:
-            self.send(m, thief, "NOWORK")
-            return
-        job = min(self.pool[m])
-        self.reserved[m] = (job, self.pool[m].pop(job), thief)
-        self.send(m, ROOT_MACHINE, "REQ", *self.reserved[m])
-
-    def req(self, victim, root, number, replica, thief):
-        job = self.jobs[number]
-        if job["state"] == PRICED or job["replica"] != replica:
-            answer = "OBSOLETE"
-        elif thief in self.told[root] or job["place"][0] == "moving":
-            answer = "DENIED"
-        else:
-            answer = "AUTH"
-            job["place"] = ("moving", victim, thief)
-        self.send(root, victim, answer, number, replica, thief)
-
-    def auth(self, root, m, *copy):
-        if self.reserved[m] == copy:
-            self.reserved[m] = None
-            self.send(m, copy[2], "SCHEDULE", *copy[:2])
-
-    def denied(self, root, m, *copy):
-        if self.reserved[m] == copy:
-            self.give_back(m)
-            self.send(m, copy[2], "NOWORK")
-
-    def obsolete(self, root, m, *copy):
-        if self.reserved[m] == copy:
-            self.reserved[m] = None
-            self.send(m, copy[2], "NOWORK")
-
-    def schedule(self, victim, m, job, replica):
-        self.add(m, job, replica)
-        self.waits[m] = None
-        self.send(m, ROOT_MACHINE, "ACK", job, replica)
-
-    def nowork(self, victim, m):
-        self.waits[m] = None
-
-    def ack(self, thief, root, number, replica):
-        job = self.jobs[number]
-        if job["state"] == OPEN and job["replica"] == replica:
-            job["place"] = ("on", thief)
-
-    def result(self, sender, root, number, replica, bits):
-        if self.jobs[number]["state"] == OPEN:
-            self.jobs[number].update(state=PRICED, price=bits)
-
-
-def page(machines, bonds, events):
-    table = Dispatcher(machines, bonds)
-    numbers = [table.event(*e) for e in events]
-    lines = [f"event {place} refused {n}" for place, n in enumerate(numbers, 1) if n != 0]
-    for (base, *_), job in zip(bonds, table.jobs):
-        shown = ["not admitted", f"open replica {job['replica']}", f"priced {job['price']:016X} replica {job['replica']}"]
-        lines.append(with_check_digit(base) + " " + shown[job["state"]])
-    return "".join(line + "\n" for line in lines)
-
-
-def close_of_day(rng):
+class Close:
     """Events until every bond is priced. Machine DYING dies once it holds bonds, and the living are told of it one after another."""
-    table = Dispatcher(SAMPLE_MACHINES, SAMPLE_BONDS)
-    events = [(1, job, 0) for job in range(len(SAMPLE_BONDS))]
-    events.insert(3, (1, 1, 0))  # admitted already
-    for e in events:
-        table.event(*e)
 
-    def happens(*e):
-        events.append(e)
-        return table.event(*e)
+    def __init__(self, rng: random.Random) -> None:
+        self.rng, self.events = rng, b""
+        self.table = model.Table(SAMPLE_MACHINES, SAMPLE_BONDS)
+        admissions = [(1, job, 0) for job in range(len(SAMPLE_BONDS))]
+        admissions.insert(3, (1, 1, 0))  # admitted already
+        for event in admissions:
+            self.happens(*event)
+        while any(job.state != model.PRICED for job in self.table.jobs):
+            self.go_on()
+        while self.table.flight:
+            self.happens(3, self.table.flight[0].sender, self.table.flight[0].to)
+        self.happens(6, model.ROOT, 0)  # the root never dies
+        self.happens(3, 1, 3)  # nothing is in flight
 
-    while any(job["state"] != PRICED for job in table.jobs):
-        living = [m for m in table.machines if table.alive[m]]
-        held = len(table.pool[DYING]) + (table.running[DYING] is not None)
-        if table.alive[DYING] and held >= 2 and table.running[DYING] is not None:
-            happens(6, DYING, 0)
-            happens(2, DYING, ROOT_MACHINE)  # a dead thief
-            continue
-        choices = [(3, m[0], m[1]) for m in table.flight]
-        choices += [(2, a, b) for a in living for b in table.machines if a != ROOT_MACHINE and a != b and table.waits[a] is None and b not in table.told[a]]
-        choices += [(4, m, min(table.pool[m])) for m in living if table.pool[m] and table.running[m] is None and (m != ROOT_MACHINE or rng.random() < 0.05)]
-        choices += [(5, m, 0) for m in living if table.running[m] is not None and rng.random() < 0.25]
-        choices += [(7, m, DYING) for m in living if not table.alive[DYING] and DYING not in table.told[m]]
-        happens(*rng.choice(choices))
-    while table.flight:
-        happens(3, *table.flight[0][:2])
-    happens(6, ROOT_MACHINE, 0)  # the root never dies
-    happens(3, 1, 3)  # nothing is in flight
-    return events
+    def happens(self, *event: int) -> None:
+        self.events += bytes(event)
+        self.table.step(bytes(event))
 
+    def go_on(self) -> None:
+        dying = self.table.machines[DYING]
+        if dying.pool and dying.running is not None:
+            self.happens(6, DYING, 0)
+            self.happens(2, DYING, model.ROOT)  # a dead thief
+        else:
+            self.happens(*self.rng.choice(self.choices()))
 
-def write(crate, machines, bonds, events, text):
-    folder = ROOT / "crates" / crate
-    (folder / "data").mkdir(parents=True, exist_ok=True)
-    (folder / "data" / "book.bin").write_bytes(book_of(machines, bonds))
-    (folder / "data" / "events.bin").write_bytes(b"".join(bytes(e) for e in events))
-    (folder / "stdout").write_text(text)
-    print(f"{crate}: {len(bonds)} entries, {len(events)} events")
-
-
-def main():
-    fail_unless(page(2, LISTING_BONDS, LISTING_EVENTS) == LISTING, "the listing of document 01 comes out otherwise")
-    write("rakhvide", 2, LISTING_BONDS, LISTING_EVENTS, LISTING)
-    events = close_of_day(random.Random(20))
-    text = page(SAMPLE_MACHINES, SAMPLE_BONDS, events)
-    fail_unless(text.count(" priced ") == len(SAMPLE_BONDS) and " replica 2\n" in text, "a bond is not priced, or none came back")
-    write("sample_close", SAMPLE_MACHINES, SAMPLE_BONDS, events, text)
-    print(text, end="")
+    def choices(self) -> list[tuple[int, int, int]]:
+        """What may happen next; the root starts bonds seldom, and work takes a while."""
+        rng, machines = self.rng, self.table.machines
+        living = [(m, machine) for m, machine in enumerate(machines) if machine.alive]
+        found = [(3, m.sender, m.to) for m in self.table.flight]
+        found += [(2, a, b) for a, thief in living for b in range(len(machines))
+                  if a != model.ROOT and a != b and thief.waits is None and b not in thief.told]
+        found += [(4, m, min(machine.pool)) for m, machine in living
+                  if machine.pool and machine.running is None and (m != model.ROOT or rng.random() < 0.05)]
+        found += [(5, m, 0) for m, machine in living if machine.running is not None and rng.random() < 0.25]
+        found += [(7, m, DYING) for m, machine in living if not machines[DYING].alive and DYING not in machine.told]
+        return found
 
 
-main()
+def sample_close() -> Program:
+    for bond in SAMPLE_BONDS:
+        same = model.price_bits(model.price_of(bond)) == model.price_bits(exact_price(bond))
+        fail_unless(same, f"the model has another price of {bond.identifier.decode('ascii')}")
+    book, events = books.book_of(SAMPLE_MACHINES, SAMPLE_BONDS), Close(random.Random(20)).events
+    page = model.page(book, events)
+    fail_unless(page.count(" priced ") == len(SAMPLE_BONDS) and " replica 2\n" in page, "a bond is not priced, or none came back")
+    return Program("sample_close", book, events, page)
+
+
+# The files.
+
+
+def write(program: Program) -> None:
+    page = model.page(program.book or b"", (program.events or b"")[:lists.MOST_READ])
+    fail_unless(page == program.page, f"the model has another page of {program.crate}")
+    folder = ROOT / "crates" / program.crate
+    folder.mkdir(parents=True, exist_ok=True)
+    for name, content in (("book.bin", program.book), ("events.bin", program.events)):
+        if content is not None:
+            (folder / "data").mkdir(exist_ok=True)
+            (folder / "data" / name).write_bytes(content)
+    (folder / "stdout").write_text(program.page)
+    print(f"{program.crate}: {len(program.book or b'')} bytes of book, {len(program.events or b'')} of events")
+
+
+def main() -> None:
+    for program in (listing(), sample_close(), no_files(), refused_book(), long_list(), broken_event()):
+        write(program)
+
+
+if __name__ == "__main__":
+    main()

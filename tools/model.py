@@ -8,14 +8,19 @@ followed by the price as a decimal number, which the program does not print. It 
 
 It is written from document 01's text and shares nothing with the crates. It is the desk's second opinion, and it tells
 picture.py what happened at each event. It holds tables of runs only, which are never refused 9, so it has no check 9.
+
+A file that cannot be read counts as empty, as it does in the program, and is named on standard error.
+
+The exit status is 0 where the page is that of an accepted book and a list of events; 1 where one of the two files cannot be
+read, though the page is printed, or where the page cannot be written; 2 for a wrong command; 3 where the book is refused.
 """
-import argparse
+import collections.abc
 import dataclasses
 import pathlib
 import struct
 import typing
 
-import book as books
+import book_bytes as books
 import desk
 import events as lists
 
@@ -29,9 +34,9 @@ class Message:
     kind: str
     sender: int
     to: int
-    job: typing.Optional[int] = None
-    replica: int = 0
-    thief: typing.Optional[int] = None
+    job: int = 0
+    replica: int = 0  # at least 1 where it carries a job
+    thief: int = 0
     price: float = 0.0
 
 
@@ -39,31 +44,30 @@ class Message:
 class Job:
     state: str = NOT_ADMITTED
     replica: int = 0
-    place: tuple = ()  # (p,), or (v, t) where it is moving
+    place: tuple[int, ...] = ()  # (p,), or (v, t) where it is moving
     price: float = 0.0
 
 
 @dataclasses.dataclass
 class Machine:
     alive: bool = True
-    told: set = dataclasses.field(default_factory=set)
-    pool: dict = dataclasses.field(default_factory=dict)  # job to replica
-    reserved: typing.Optional[tuple] = None  # (job, replica, thief)
-    running: typing.Optional[tuple] = None  # (job, replica)
-    waits: typing.Optional[int] = None
+    told: set[int] = dataclasses.field(default_factory=set)
+    pool: dict[int, int] = dataclasses.field(default_factory=dict)  # job to replica
+    reserved: tuple[int, int, int] | None = None  # (job, replica, thief)
+    running: tuple[int, int] | None = None  # (job, replica)
+    waits: int | None = None
 
-    def add(self, job, replica):
+    def add(self, job: int, replica: int) -> None:
         """Adding a copy to a pool keeps the larger replica number."""
         self.pool[job] = max(replica, self.pool.get(job, 0))
 
-    def give_back(self):
-        """The reserved copy returns to the pool."""
-        job, replica, _ = self.reserved
+    def give_back(self, job: int, replica: int) -> None:
+        """This copy, which is the reserved one, returns to the pool."""
         self.reserved = None
         self.add(job, replica)
 
 
-def price_of(entry):
+def price_of(entry: books.Entry) -> float:
     """Python's float is a binary64, and each operation on it is rounded once."""
     d = 1 + entry.ytm / 2
     p = 100.0
@@ -73,7 +77,8 @@ def price_of(entry):
 
 
 # "Where each refusal is checked": the rows of the events, each from left to right, as number, condition and test.
-REFUSALS = {
+Refusal = tuple[int, str, collections.abc.Callable[["Table", int, int], bool]]
+REFUSALS: dict[str, list[Refusal]] = {
     "admit": [
         (13, "already admitted", lambda t, a, b: t.jobs[a].state != NOT_ADMITTED)],
     "steal": [
@@ -83,7 +88,7 @@ REFUSALS = {
         (14, "the thief was told the victim is dead", lambda t, a, b: b in t.machines[a].told),
         (16, "128 messages in flight", lambda t, a, b: t.is_full())],
     "deliver": [
-        (15, "none in flight", lambda t, a, b: t.oldest(a, b) is None)],
+        (15, "none in flight", lambda t, a, b: not t.between(a, b))],
     "start": [
         (12, "the machine is dead", lambda t, a, b: not t.machines[a].alive),
         (17, "it is running already", lambda t, a, b: t.machines[a].running is not None),
@@ -105,24 +110,25 @@ WITHOUT_B = ["admit", "done", "die"]
 
 
 class Table:
-    """The table of a run. After an event, log tells what it did: pairs of a word and a message or a job number."""
+    """The table of a run. After an event, log and again tell what it did."""
 
-    def __init__(self, machines, entries):
+    def __init__(self, machines: int, entries: list[books.Entry]) -> None:
         self.entries = entries
-        self.jobs = [Job() for _ in entries]
-        self.machines = [Machine() for _ in range(machines)]
-        self.flight = []  # messages in order of sending
-        self.log = []
+        self.jobs: list[Job] = [Job() for _ in entries]
+        self.machines: list[Machine] = [Machine() for _ in range(machines)]
+        self.flight: list[Message] = []  # in order of sending
+        self.log: list[tuple[str, Message]] = []  # what became of messages, each after a word
+        self.again: list[int] = []  # the jobs that got a new replica number
 
-    def step(self, event):
+    def step(self, event: bytes) -> tuple[int, str]:
         """0 and an empty text, or the number of the refusal and its condition."""
-        self.log = []
+        self.log, self.again = [], []
         number, condition = self.refusal(event)
         if number == 0:
             getattr(self, EVENTS[event[0] - 1])(event[1], event[2])
         return number, condition
 
-    def refusal(self, event):
+    def refusal(self, event: bytes) -> tuple[int, str]:
         if len(event) < 3:
             return 10, "fewer than three bytes"
         code, a, b = event[:3]
@@ -131,92 +137,94 @@ class Table:
         name = EVENTS[code - 1]
         if name in WITHOUT_B and b != 0:
             return 10, "unused b not 0"
-        if a >= len(self.jobs if name == "admit" else self.machines):
-            return 11, f"no {'entry' if name == 'admit' else 'machine'} {a}"
-        if name not in WITHOUT_B and b >= len(self.jobs if name == "start" else self.machines):
-            return 11, f"no {'entry' if name == 'start' else 'machine'} {b}"
+        counts = {"entry": len(self.jobs), "machine": len(self.machines)}
+        first, second = "entry" if name == "admit" else "machine", "entry" if name == "start" else "machine"
+        if a >= counts[first]:
+            return 11, f"no {first} {a}"
+        if name not in WITHOUT_B and b >= counts[second]:
+            return 11, f"no {second} {b}"
         return next(((number, words) for number, words, holds in REFUSALS[name] if holds(self, a, b)), (0, ""))
 
-    def is_full(self):
+    def is_full(self) -> bool:
         return len(self.flight) >= MOST_IN_FLIGHT
 
-    def oldest(self, sender, to):
-        return next((m for m in self.flight if (m.sender, m.to) == (sender, to)), None)
+    def between(self, sender: int, to: int) -> list[Message]:
+        """The messages in flight from one machine to another, the oldest first."""
+        return [m for m in self.flight if (m.sender, m.to) == (sender, to)]
 
-    def send(self, kind, sender, to, job=None, replica=0, thief=None, price=0.0):
+    def send(self, message: Message) -> None:
         """A message to a dead machine is stored nowhere."""
-        message = Message(kind, sender, to, job, replica, thief, price)
-        if self.machines[to].alive:
+        if self.machines[message.to].alive:
             self.flight.append(message)
             self.log.append(("sent", message))
         else:
             self.log.append(("lost", message))
 
-    def drop(self, dropped):
+    def drop(self, dropped: collections.abc.Callable[[Message], bool]) -> None:
         """The messages of which the test holds are dropped."""
         self.log += [("dropped", m) for m in self.flight if dropped(m)]
         self.flight = [m for m in self.flight if not dropped(m)]
 
     # The seven events.
 
-    def admit(self, a, _):
+    def admit(self, a: int, _: int) -> None:
         self.jobs[a] = Job(OPEN, 1, (ROOT,))
         self.machines[ROOT].add(a, 1)
 
-    def steal(self, a, b):
-        self.send("FISH", a, b)
+    def steal(self, a: int, b: int) -> None:
+        self.send(Message("FISH", a, b))
         self.machines[a].waits = b
 
-    def deliver(self, a, b):
-        message = self.oldest(a, b)
+    def deliver(self, a: int, b: int) -> None:
+        message = self.between(a, b)[0]
         self.flight.remove(message)
         self.log.append(("delivered", message))
         getattr(self, "on_" + message.kind.lower())(message, self.machines[b])
 
-    def start(self, a, b):
+    def start(self, a: int, b: int) -> None:
         machine = self.machines[a]
         machine.running = (b, machine.pool.pop(b))
 
-    def done(self, a, _):
-        job, replica = self.machines[a].running
-        self.machines[a].running = None
-        self.send("RESULT", a, ROOT, job, replica, price=price_of(self.entries[job]))
+    def done(self, a: int, _: int) -> None:
+        copy, self.machines[a].running = self.machines[a].running, None
+        assert copy is not None  # otherwise it is refused 19
+        self.send(Message("RESULT", a, ROOT, *copy, price=price_of(self.entries[copy[0]])))
 
-    def die(self, a, _):
+    def die(self, a: int, _: int) -> None:
         """Its pool, reserved, running and waiting are cleared; a dead machine keeps what it was told."""
         self.machines[a] = Machine(alive=False, told=self.machines[a].told)
         self.drop(lambda m: m.to == a)
 
-    def notice(self, a, b):
+    def notice(self, a: int, b: int) -> None:
         machine = self.machines[a]
         machine.told.add(b)
         self.drop(lambda m: (m.sender, m.to) == (b, a))
         if machine.waits == b:
             machine.waits = None
         if machine.reserved is not None and machine.reserved[2] == b:
-            machine.give_back()
+            machine.give_back(*machine.reserved[:2])
         if a == ROOT:
             self.replicate(b)
 
-    def replicate(self, dead):
+    def replicate(self, dead: int) -> None:
         """Each open job on the dead machine, or moving from or to it, gets the next replica number and is on the root."""
         for number, job in enumerate(self.jobs):
             if job.state == OPEN and dead in job.place:
                 job.replica, job.place = job.replica + 1, (ROOT,)
                 self.machines[ROOT].add(number, job.replica)
-                self.log.append(("again", number))
+                self.again.append(number)
 
     # Handling, by kind: the message, and the machine that it came to.
 
-    def on_fish(self, m, machine):
+    def on_fish(self, m: Message, machine: Machine) -> None:
         if machine.reserved is not None or not machine.pool:
-            self.send("NOWORK", m.to, m.sender)
+            self.send(Message("NOWORK", m.to, m.sender))
             return
         job = min(machine.pool)
         machine.reserved = (job, machine.pool.pop(job), m.sender)
-        self.send("REQ", m.to, ROOT, *machine.reserved)
+        self.send(Message("REQ", m.to, ROOT, *machine.reserved))
 
-    def on_req(self, m, root):
+    def on_req(self, m: Message, root: Machine) -> None:
         job = self.jobs[m.job]
         if job.state == PRICED or job.replica != m.replica:
             answer = "OBSOLETE"
@@ -225,50 +233,50 @@ class Table:
         else:
             answer = "AUTH"
             job.place = (m.sender, m.thief)
-        self.send(answer, ROOT, m.sender, m.job, m.replica, m.thief)
+        self.send(Message(answer, ROOT, m.sender, m.job, m.replica, m.thief))
 
-    def matches(self, m, machine):
+    def matches(self, m: Message, machine: Machine) -> bool:
         """Unless job, replica and thief all match the reserved copy, the answer does nothing."""
         if machine.reserved == (m.job, m.replica, m.thief):
             return True
         self.log.append(("idle", m))
         return False
 
-    def on_auth(self, m, machine):
+    def on_auth(self, m: Message, machine: Machine) -> None:
         if self.matches(m, machine):
             machine.reserved = None
-            self.send("SCHEDULE", m.to, m.thief, m.job, m.replica)
+            self.send(Message("SCHEDULE", m.to, m.thief, m.job, m.replica))
 
-    def on_denied(self, m, machine):
+    def on_denied(self, m: Message, machine: Machine) -> None:
         if self.matches(m, machine):
-            machine.give_back()
-            self.send("NOWORK", m.to, m.thief)
+            machine.give_back(m.job, m.replica)
+            self.send(Message("NOWORK", m.to, m.thief))
 
-    def on_obsolete(self, m, machine):
+    def on_obsolete(self, m: Message, machine: Machine) -> None:
         if self.matches(m, machine):
             machine.reserved = None
-            self.send("NOWORK", m.to, m.thief)
+            self.send(Message("NOWORK", m.to, m.thief))
 
-    def on_schedule(self, m, machine):
+    def on_schedule(self, m: Message, machine: Machine) -> None:
         machine.add(m.job, m.replica)
         machine.waits = None
-        self.send("ACK", m.to, ROOT, m.job, m.replica)
+        self.send(Message("ACK", m.to, ROOT, m.job, m.replica))
 
-    def on_nowork(self, m, machine):
+    def on_nowork(self, _: Message, machine: Machine) -> None:
         machine.waits = None
 
-    def on_ack(self, m, _):
+    def on_ack(self, m: Message, _: Machine) -> None:
         job = self.jobs[m.job]
         if job.state == OPEN and job.replica == m.replica:
             job.place = (m.sender,)
         else:
             self.log.append(("idle", m))
 
-    def on_result(self, m, _):
+    def on_result(self, m: Message, _: Machine) -> None:
         job = self.jobs[m.job]
         if job.state == OPEN:
             job.state, job.price = PRICED, m.price
-            self.log.append(("priced", m.job))
+            self.log.append(("priced", m))
         else:
             self.log.append(("idle", m))
 
@@ -276,30 +284,44 @@ class Table:
 # The page.
 
 
-def files_of(folder):
+class Files(typing.NamedTuple):
+    """The two files of a folder, as the program reads them."""
+    book: bytes
+    events: bytes
+    unread: bool  # whether one of them cannot be read and counts as empty
+
+    def status(self) -> int:
+        """The exit status: that a file cannot be read goes before what its being empty leads to."""
+        if self.unread:
+            return desk.FAULTY
+        return desk.REFUSED if books.number_of(self.book) else desk.DONE
+
+
+def files_of(folder: desk.Path) -> tuple[pathlib.Path, pathlib.Path]:
     return pathlib.Path(folder) / "book.bin", pathlib.Path(folder) / "events.bin"
 
 
-def read_folder(folder):
-    """book.bin and events.bin as the program reads them: a file that cannot be opened counts as empty."""
+def read_folder(folder: desk.Path) -> Files:
+    """What the folder has; a file that cannot be read is named on standard error."""
     if not pathlib.Path(folder).is_dir():
         raise desk.Stop(f"{folder} is not a folder")
     book, events = map(content, files_of(folder))
-    return book, events[:lists.MOST_READ]
+    return Files(book or b"", (events or b"")[:lists.MOST_READ], book is None or events is None)
 
 
-def content(path):
+def content(path: pathlib.Path) -> bytes | None:
     try:
         return desk.read_bytes(path)
-    except desk.Stop:
-        return b""
+    except desk.Stop as stop:
+        desk.warn(f"{stop}; it counts as empty")
+        return None
 
 
-def price_bits(price):
+def price_bits(price: float) -> str:
     return struct.pack(">d", price).hex().upper()
 
 
-def job_line(entry, job, decimal):
+def job_line(entry: books.Entry, job: Job, decimal: bool) -> str:
     if job.state == PRICED:
         price = price_bits(job.price) + (f" {job.price!r}" if decimal else "")
         shown = f"priced {price} replica {job.replica}"
@@ -308,7 +330,7 @@ def job_line(entry, job, decimal):
     return f"{entry.identifier.decode('ascii')} {shown}\n"
 
 
-def page(book, events, decimal=False):
+def page(book: bytes, events: bytes, decimal: bool = False) -> str:
     number = books.number_of(book)
     if number != 0:
         return f"book refused {number}\n"
@@ -318,12 +340,14 @@ def page(book, events, decimal=False):
     return "".join(refused) + "".join(job_line(entry, job, decimal) for entry, job in zip(table.entries, table.jobs))
 
 
-def main():
-    parser = argparse.ArgumentParser(description="Print the page of a folder's book.bin and events.bin.")
+def main() -> int:
+    parser = desk.parser(__doc__)
     parser.add_argument("folder", metavar="FOLDER")
     parser.add_argument("--decimal", action="store_true", help="print prices as decimal numbers too")
     args = parser.parse_args()
-    desk.say(page(*read_folder(args.folder), args.decimal))
+    files = read_folder(args.folder)
+    desk.say(page(files.book, files.events, args.decimal))
+    return files.status()
 
 
 if __name__ == "__main__":

@@ -5,21 +5,26 @@
 
 The folder has the book.bin and events.bin of the run; out.svg is none of them. A title that is too long for the picture is
 shortened, and one with a character that XML does not have, as a control character, is refused. A long run makes a picture of
-more than 32,767 pixels, which some programs do not draw; the tool then says so. It needs Python's standard library only.
+more than 32,767 pixels, which some programs do not draw; the tool then says so. A file that cannot be read counts as empty, as
+it does in the program, and is named on standard error. It needs Python's standard library only.
 
 Time goes down, a row for each event; a machine is a lane, and the line in it is the machine's life. Left of the line stand
 the messages that come to the machine, each at the end of its arrow; right of it are the copies of the bonds that it holds,
 each a bar with the job's number. What happened is told by model.py (by way of history.py), which is document 01 in Python.
-"""
-import argparse
-import pathlib
-import re
 
-import book as books
+The exit status is 0 where the picture is that of an accepted book and a list of events; 1 where one of the two files cannot be
+read (of a book without events.bin the picture is written all the same), or the picture cannot be written, or the title is
+refused; 2 for a wrong command; 3 where the book is refused.
+"""
+import collections.abc
+from xml.etree.ElementTree import Element
+
+import book_bytes as books
 import desk
 import history as runs
 import model
-from svg import cross, curve, cut, line, path, pill_width, rect, tag, text, tip, triangle, width_of, BOLD, NO_XML, Pill
+import svg
+from svg import circle, cross, curve, cut, line, path, pill_width, rect, tag, text, triangle, width_of, BOLD, Pill
 
 INK, SOFT, FAINT, PAPER, LANE = "#23292f", "#66707a", "#d5d8d4", "#fbfbf9", "#f1f2ee"
 RED, RED_TINT, DARK, WAITING = "#b3261e", "#fbd5d1", "#343a40", "#d08a00"
@@ -35,7 +40,7 @@ FATES = {
     runs.DELIVERED: "delivered", runs.DROPPED: "dropped", runs.LOST: "lost, for it goes to a dead machine",
     runs.IN_FLIGHT: "in flight at the end",
 }
-TICK, TIMES, ARROW = "\u2713", "\u00d7", "\u2192"
+TICK, TIMES = "\u2713", "\u00d7"
 
 MARGIN = 28
 LEAST = 1120  # width of the picture
@@ -48,11 +53,15 @@ STATE, TERMS, COLUMN = 140, 308, 520  # in the list of bonds: where states begin
 TITLE = 21  # size of its letters
 MOST_PIXELS = 32767  # of a side, which some programs do not go beyond
 
+Elements = collections.abc.Iterator[Element]
+Stay = list[runs.Copy]  # of one job and replica on one machine
+Sign = tuple[float, collections.abc.Callable[[float, float], list[Element]]]  # its width, and how it is drawn
+
 
 # The layout: where lanes, rows and pills are.
 
 
-def flight_pill(flight):
+def flight_pill(flight: runs.Flight) -> Pill:
     """The label of a message at the end of its way."""
     m, words = flight.message, runs.label(flight.message)
     about = f"{words} from {m.sender} to {m.to}: sent at event {flight.start + 1}, {FATES[flight.fate]}"
@@ -66,9 +75,10 @@ def flight_pill(flight):
     return Pill(words, KINDS[m.kind], filled, flight.fate != runs.DELIVERED, about)
 
 
-def pack(stays):
+def pack(stays: list[Stay]) -> tuple[int, list[tuple[int, Stay]]]:
     """How many columns the stays need, and pairs of a column and a stay: each as far left as there is room."""
-    ends, placed = [], []
+    ends: list[int] = []
+    placed = []
     for stay in stays:  # in the order of their starts
         column = next((c for c, end in enumerate(ends) if end <= stay[0].start), len(ends))
         ends[column:column + 1] = [stay[-1].end]
@@ -79,7 +89,7 @@ def pack(stays):
 class Lane:
     """A machine's lane: its edges, its line, the columns of its bars."""
 
-    def __init__(self, machine, x, stays, pills):
+    def __init__(self, machine: int, x: float, stays: list[Stay], pills: list[Pill]) -> None:
         labels = [runs.copy_label(stay[0].job, stay[0].replica) for stay in stays]
         columns, self.stays = pack(stays)
         self.machine, self.x = machine, x
@@ -87,27 +97,27 @@ class Lane:
         self.bar = max([16, *(width_of(words, 9) + 4 for words in labels)])
         self.end = max(self.bar_x(columns), self.line + 46) + 10
 
-    def move(self, by, room):
+    def move(self, by: float, room: float) -> None:
         """Further right, with more room at its end."""
         self.x, self.line, self.end = self.x + by, self.line + by, self.end + by + room
 
-    def bar_x(self, column):
+    def bar_x(self, column: int) -> float:
         return self.line + 9 + column * (self.bar + 2)
 
 
 class Layout:
     """The places of all things. A row is as high as the pills that stand in it in one lane."""
 
-    def __init__(self, history):
+    def __init__(self, history: runs.History) -> None:
         self.history = history
-        self.pills = {}  # row and machine to the pills, from top to bottom
-        self.flights = []  # pairs of a flight and its pill
+        self.pills: dict[tuple[int, int], list[Pill]] = {}  # row and machine to the pills, from top to bottom
+        self.flights: list[tuple[runs.Flight, Pill]] = []
         self.gather()
         self.place_lanes()
         self.right = self.lanes[-1].end
         self.width = self.right + MARGIN
 
-    def gather(self):
+    def gather(self) -> None:
         history = self.history
         for machine, row in history.deaths.items():
             self.put(row, machine, Pill("dies", DARK, about=f"machine {machine} dies at event {row + 1}"))
@@ -120,11 +130,12 @@ class Layout:
             self.flights.append((flight, flight_pill(flight)))
             self.put(flight.end, flight.message.to, self.flights[-1][1])
 
-    def put(self, row, machine, pill):
+    def put(self, row: int, machine: int, pill: Pill) -> None:
         self.pills.setdefault((row, machine), []).append(pill)
 
-    def place_lanes(self):
-        self.lanes, x = [], MARGIN + PLACE + EVENT + NOTE
+    def place_lanes(self) -> None:
+        self.lanes: list[Lane] = []
+        x: float = MARGIN + PLACE + EVENT + NOTE
         for machine in range(len(self.history.table.machines)):
             stays = [stay for stay in runs.stays(self.history.copies) if stay[0].machine == machine]
             pills = [pill for (_, to), found in self.pills.items() if to == machine for pill in found]
@@ -134,9 +145,10 @@ class Layout:
         for lane in self.lanes:
             lane.move(room * lane.machine, room)
 
-    def place_rows(self, top):
+    def place_rows(self, top: float) -> None:
         """The top of each row and of the end; a row's pills stand below one another."""
-        self.tops, self.heads, y = [], [top], top + HEAD
+        self.tops: list[float] = []
+        self.heads, y = [top], top + HEAD
         last = len(self.history.rows)
         for row in range(last + 1):
             if row % HEADS == 0 and 0 < row <= last - 5:
@@ -150,7 +162,7 @@ class Layout:
             y += LINE * max(0 if row == last else 1, *map(len, here))
         self.bottom = y + 6
 
-    def y(self, row):
+    def y(self, row: int) -> float:
         """The middle of a row's first line; the bottom for what lasts."""
         return self.tops[row] + LINE / 2 if row < len(self.history.rows) else self.bottom
 
@@ -158,7 +170,7 @@ class Layout:
 # The drawing, from what lies below to what lies above.
 
 
-def ground(layout):
+def ground(layout: Layout) -> Elements:
     """Lanes, rows, and the shade of refused events and of dead machines."""
     for lane in layout.lanes:
         yield rect(lane.x, layout.heads[0], lane.end - lane.x, layout.bottom - layout.heads[0], LANE if lane.machine % 2 == 0 else "#ffffff")
@@ -175,7 +187,7 @@ def ground(layout):
     yield line(MARGIN, layout.bottom, layout.right, layout.bottom, SOFT)
 
 
-def heads(layout):
+def heads(layout: Layout) -> Elements:
     """The names of the lanes."""
     for at, y in enumerate(layout.heads):
         yield rect(MARGIN, y, layout.right - MARGIN, HEAD, DARK if at == 0 else "#6b747c")
@@ -187,7 +199,7 @@ def heads(layout):
             yield text(lane.line, y + HEAD / 2, name, 11, "#b8bfc5" if dead else "#ffffff", font_weight="bold", text_anchor="middle")
 
 
-def lifelines(layout):
+def lifelines(layout: Layout) -> Elements:
     for lane in layout.lanes:
         for y, until in zip(layout.heads, [*layout.heads[1:], layout.bottom]):
             died = layout.history.deaths.get(lane.machine, len(layout.history.rows))
@@ -195,14 +207,14 @@ def lifelines(layout):
                 yield line(lane.line, y + HEAD, lane.line, min(until, layout.y(died)), DARK, stroke_width=2.5)
     for wait in layout.history.waits:
         x, y, end = layout.lanes[wait.machine].line, layout.y(wait.start), layout.y(wait.end)
-        about = tip(f"machine {wait.machine} waits on {wait.victim} from event {wait.start + 1}")
+        about = f"machine {wait.machine} waits on {wait.victim} from event {wait.start + 1}"
         yield line(x, y, x, end, PAPER, stroke_width=3)
-        yield line(x, y, x, end, WAITING, stroke_width=3, stroke_dasharray="2 2.5", content=about)
+        yield line(x, y, x, end, WAITING, about, stroke_width=3, stroke_dasharray="2 2.5")
     for machine, row in layout.history.deaths.items():
         yield cross(layout.lanes[machine].line, layout.y(row), 5, DARK, 3)
 
 
-def bars(layout):
+def bars(layout: Layout) -> Elements:
     """The copies that a machine holds."""
     for lane in layout.lanes:
         for column, stay in lane.stays:
@@ -210,11 +222,11 @@ def bars(layout):
                 fill, edge = STATES[copy.state]
                 y, end = layout.y(copy.start) + 0.5, layout.y(copy.end) - 0.5
                 name = layout.history.table.entries[copy.job].identifier.decode("ascii")
-                about = tip(f"{name}, job {copy.job} replica {copy.replica}: {copy.state} on machine {copy.machine} from event {copy.start + 1}")
-                yield rect(lane.bar_x(column), y, lane.bar, end - y, fill, rx=3, stroke=edge, stroke_width=0.8, content=about)
+                about = f"{name}, job {copy.job} replica {copy.replica}: {copy.state} on machine {copy.machine} from event {copy.start + 1}"
+                yield rect(lane.bar_x(column), y, lane.bar, end - y, fill, about, rx=3, stroke=edge, stroke_width=0.8)
 
 
-def bar_labels(layout):
+def bar_labels(layout: Layout) -> Elements:
     """The job of each bar, where it begins and below the names of the lanes."""
     for lane in layout.lanes:
         for column, stay in lane.stays:
@@ -224,7 +236,7 @@ def bar_labels(layout):
                     yield text(lane.bar_x(column) + lane.bar / 2, y + LINE / 2, words, 9, text_anchor="middle")
 
 
-def arrows(layout):
+def arrows(layout: Layout) -> Elements:
     """The way of each message from its sending; a broken line where it does not arrive."""
     loops = 0
     for flight, pill in layout.flights:
@@ -240,18 +252,18 @@ def arrows(layout):
             end = left - 1 if sender.x < to.x else to.line + 3
             d = curve(x, y, end, pill.y)
         yield path(d, stroke=pill.colour, stroke_width=1.3, stroke_dasharray=dashes, stroke_opacity=0.85)
-        yield tag("circle", cx=x, cy=y, r=2.6, fill=pill.colour)
+        yield circle(x, y, 2.6, pill.colour)
         if flight.fate == runs.DELIVERED:
             yield triangle(end, pill.y, 1 if end < to.line else -1, pill.colour)
 
 
-def pills(layout):
+def pills(layout: Layout) -> Elements:
     for (_, machine), found in layout.pills.items():
         for pill in found:
             yield pill.drawn(layout.lanes[machine].line - 5, PAPER)
 
 
-def log(layout):
+def log(layout: Layout) -> Elements:
     """The list of events at the left, each with what it did."""
     for row, event in enumerate(layout.history.rows):
         y = layout.tops[row] + LINE / 2
@@ -259,7 +271,7 @@ def log(layout):
         note = f"refused {event.number}: {event.note}" if event.number else event.note
         yield text(MARGIN + PLACE - 8, y, str(row + 1), 9.5, RED if event.number else SOFT, text_anchor="end")
         yield text(MARGIN + PLACE, y, event.text, 10.5, colour)
-        yield text(MARGIN + PLACE + EVENT, y, cut(note, 10, NOTE - 8), 10, RED if event.number else SOFT, content=tip(note))
+        yield text(MARGIN + PLACE + EVENT, y, cut(note, 10, NOTE - 8), 10, RED if event.number else SOFT, note)
     if any(flight.fate == runs.IN_FLIGHT for flight in layout.history.flights):
         yield text(MARGIN + PLACE, layout.tops[-1] + LINE / 2, "in flight at the end", 10.5, SOFT)
 
@@ -267,54 +279,52 @@ def log(layout):
 # What stands above the lanes.
 
 
-def plural(count, word):
-    return f"{count} {word}" + ("" if count == 1 else "s")
-
-
-def summary(history):
+def summary(history: runs.History) -> str:
     refused = sum(row.number != 0 for row in history.rows)
     states = [job.state for job in history.table.jobs]
     fates = [flight.fate for flight in history.flights]
     return "   \u00b7   ".join([
-        f"{plural(len(history.rows), 'event')}, {refused} refused",
+        f"{desk.plural(len(history.rows), 'event')}, {refused} refused",
         f"{states.count(model.PRICED)} priced, {states.count(model.OPEN)} open, {states.count(model.NOT_ADMITTED)} not admitted",
-        f"{plural(len(history.deaths), 'death')}, {plural(len(history.notices), 'notice')}",
-        f"{plural(len(fates), 'message')}: {fates.count(runs.DELIVERED)} delivered, {fates.count(runs.DROPPED)} dropped, "
+        f"{desk.plural(len(history.deaths), 'death')}, {desk.plural(len(history.notices), 'notice')}",
+        f"{desk.plural(len(fates), 'message')}: {fates.count(runs.DELIVERED)} delivered, {fates.count(runs.DROPPED)} dropped, "
         f"{fates.count(runs.LOST)} lost, {fates.count(runs.IN_FLIGHT)} in flight"])
 
 
-def bar_sign(state):
+def bar_sign(state: str) -> Sign:
     fill, edge = STATES[state]
-    return 18, lambda x, y: rect(x, y - 7, 16, 14, fill, rx=3, stroke=edge) + text(x + 8, y, "3", 9, text_anchor="middle")
+    return 18, lambda x, y: [rect(x, y - 7, 16, 14, fill, rx=3, stroke=edge), text(x + 8, y, "3", 9, text_anchor="middle")]
 
 
-def pill_sign(*parts):
-    pill = Pill(*parts)
+def pill_sign(words: str, colour: str, filled: bool = True, dashed: bool = False) -> Sign:
+    pill = Pill(words, colour, filled, dashed)
 
-    def draw(x, y):
+    def draw(x: float, y: float) -> list[Element]:
         pill.y = y
-        return pill.drawn(x + pill_width(pill.words), PAPER)
+        return [pill.drawn(x + pill_width(pill.words), PAPER)]
     return pill_width(pill.words), draw
 
 
-def life_sign(colour, dashes, ends=False):
-    return 10, lambda x, y: line(x + 5, y - 8, x + 5, y + (0 if ends else 8), colour, stroke_width=2.8, stroke_dasharray=dashes) + (
-        cross(x + 5, y, 4, colour, 2.6) if ends else "")
+def life_sign(colour: str, dashes: str | None, ends: bool = False) -> Sign:
+    def draw(x: float, y: float) -> list[Element]:
+        life = line(x + 5, y - 8, x + 5, y + (0 if ends else 8), colour, stroke_width=2.8, stroke_dasharray=dashes)
+        return [life, cross(x + 5, y, 4, colour, 2.6)] if ends else [life]
+    return 10, draw
 
 
-def arrow_sign():
+def arrow_sign() -> Sign:
     colour = KINDS["FISH"]
-    return 40, lambda x, y: (tag("circle", cx=x + 3, cy=y - 4, r=2.6, fill=colour) + triangle(x + 38, y + 4, 1, colour)
-                             + path(curve(x + 3, y - 4, x + 38, y + 4), stroke=colour, stroke_width=1.3))
+    return 40, lambda x, y: [circle(x + 3, y - 4, 2.6, colour), triangle(x + 38, y + 4, 1, colour),
+                             path(curve(x + 3, y - 4, x + 38, y + 4), stroke=colour, stroke_width=1.3)]
 
 
-def legend_items():
-    """Pairs of a sign, as its width and how it is drawn, and what it means."""
+def legend_items() -> list[tuple[Sign, str]]:
+    """Pairs of a sign and what it means."""
     return [
         (bar_sign(runs.POOL), "job 3 in the pool"),
         (bar_sign(runs.RESERVED), "reserved for a thief"),
         (bar_sign(runs.RUNNING), "running"),
-        ((22, lambda x, y: text(x, y, "3/2", 10.5)), "job 3, replica 2 (1 is not written)"),
+        ((22, lambda x, y: [text(x, y, "3/2", 10.5)]), "job 3, replica 2 (1 is not written)"),
         (life_sign(DARK, None), "alive"),
         (life_sign(WAITING, "2 2.5"), "waits on a victim"),
         (life_sign(DARK, None, True), "dies"),
@@ -329,20 +339,21 @@ def legend_items():
     ]
 
 
-def legend(width, top):
+def legend(width: float, top: float) -> tuple[list[Element], float]:
     """The drawn signs, and where they end."""
-    drawn, x, y = [], MARGIN + 12, top + 18
+    drawn: list[Element] = []
+    x, y = float(MARGIN + 12), top + 18
     for (sign_width, draw), words in legend_items():
         whole = sign_width + 7 + width_of(words, 10.5) + 20
         if x + whole > width - MARGIN - 4:
             x, y = MARGIN + 12, y + 24
-        drawn += [draw(x, y), text(x + sign_width + 7, y, words, 10.5, SOFT)]
+        drawn += [*draw(x, y), text(x + sign_width + 7, y, words, 10.5, SOFT)]
         x += whole
     frame = rect(MARGIN, top, width - 2 * MARGIN, y + 18 - top, "#ffffff", rx=6, stroke=FAINT)
     return [frame, *drawn], y + 18
 
 
-def bond_line(number, entry, job):
+def bond_line(number: int, entry: books.Entry, job: model.Job) -> tuple[str, str, str, str]:
     """What the book and the page say of a bond."""
     terms = f"{entry.periods} half-years at {entry.ytm!r}"
     kind = f"zero, {terms}" if entry.kind == books.ZERO else f"coupon {entry.coupon!r}, {terms}"
@@ -353,7 +364,7 @@ def bond_line(number, entry, job):
     return str(number), entry.identifier.decode("ascii"), state, kind
 
 
-def bonds(history, width, top):
+def bonds(history: runs.History, width: float, top: float) -> tuple[list[Element], float]:
     """The list of the bonds in columns, wide enough for all that is said of a bond, and where it ends."""
     lines = [bond_line(i, *both) for i, both in enumerate(zip(history.table.entries, history.table.jobs))]
     terms = max([TERMS, *(STATE + width_of(state, 10.5) + 6 for _, _, state, _ in lines)])
@@ -368,11 +379,14 @@ def bonds(history, width, top):
     return drawn, top + BOND * rows
 
 
-HATCH = ('<defs><pattern id="dead" width="7" height="7" patternUnits="userSpaceOnUse" patternTransform="rotate(45)">'
-         '<rect width="7" height="7" fill="#e4e5e3"/><line x1="0" y1="0" x2="0" y2="7" stroke="#cfd1ce" stroke-width="2"/></pattern></defs>')
+def hatch() -> Element:
+    """The shade of a dead machine's lane."""
+    parts = tag("rect", width=7, height=7, fill="#e4e5e3"), tag("line", x1=0, y1=0, x2=0, y2=7, stroke="#cfd1ce", stroke_width=2)
+    turned = tag("pattern", *parts, id="dead", width=7, height=7, patternUnits="userSpaceOnUse", patternTransform="rotate(45)")
+    return tag("defs", turned)
 
 
-def drawn(history, title):
+def drawn(history: runs.History, title: str) -> Element:
     """The whole picture."""
     layout = Layout(history)
     short = cut(title, BOLD * TITLE, layout.width - 2 * MARGIN)
@@ -381,44 +395,47 @@ def drawn(history, title):
     listed, y = bonds(history, layout.width, y + 14)
     layout.place_rows(y + 16)
     height = layout.bottom + MARGIN
-    parts = [HATCH, rect(0, 0, layout.width, height, PAPER), *above, *signs, *listed]
+    parts = [hatch(), rect(0, 0, layout.width, height, PAPER), *above, *signs, *listed]
     for part in (ground, bars, lifelines, arrows, heads, bar_labels, pills, log):
         parts += part(layout)
-    size = f'width="{layout.width:.0f}" height="{height:.0f}" viewBox="0 0 {layout.width:.0f} {height:.0f}"'
-    return (f'<svg xmlns="http://www.w3.org/2000/svg" {size} font-family="{FONT}">\n' + tip(title) + "\n" + "\n".join(parts) + "\n</svg>\n")
+    return svg.picture(layout.width, height, FONT, title, parts)
 
 
-def check_title(title):
-    found = NO_XML.search(title)
+def check_title(title: str) -> None:
+    found = svg.NO_XML.search(title)
     if found:
-        raise desk.Stop(f"the title has the character {ascii(found[0])}, which XML does not have")
+        raise desk.Stop(f"character {found.start() + 1} of the title is {desk.named(found[0])}, which XML does not have")
 
 
-def picture(book, events, title=None):
-    check_title(title or "")
-    refused = books.number_of(book)
-    if refused:
-        raise desk.Stop(f"book refused {refused}: there is no run to draw")
+def picture(book: bytes, events: bytes, title: str | None = None) -> Element:
+    """The picture of a run over an accepted book."""
     machines, entries = books.parts(book)
     history = runs.History(machines, entries, events)
-    return drawn(history, title or f"{plural(len(entries), 'bond')} on {plural(machines, 'machine')}")
+    return drawn(history, title or f"{desk.plural(len(entries), 'bond')} on {desk.plural(machines, 'machine')}")
 
 
-def warn_of_size(svg):
-    width, height = map(int, re.search('width="([0-9]+)" height="([0-9]+)"', svg).groups())
+def warn_of_size(root: Element) -> None:
+    width, height = int(root.get("width", "")), int(root.get("height", ""))
     if max(width, height) > MOST_PIXELS:
         desk.warn(f"the picture is {width} pixels wide and {height} high: some programs draw none of more than {MOST_PIXELS}")
 
 
-def main():
-    parser = argparse.ArgumentParser(description="Draw the run of a folder's book.bin and events.bin.")
+def main() -> int:
+    parser = desk.parser(__doc__)
     parser.add_argument("folder", metavar="FOLDER")
-    parser.add_argument("svg", metavar="out.svg", type=pathlib.Path)
+    parser.add_argument("svg", metavar="out.svg")
     parser.add_argument("--title", help="the title line")
     args = parser.parse_args()
-    svg = picture(*model.read_folder(args.folder), args.title)
-    desk.write_bytes(args.svg, svg.encode("utf-8"), model.files_of(args.folder))
-    warn_of_size(svg)
+    with desk.making(args.svg):
+        check_title(args.title or "")
+        files = model.read_folder(args.folder)
+        refused = books.number_of(files.book)
+        if refused:
+            raise desk.Stop(f"book refused {refused}: there is no run to draw", files.status())
+    root = picture(files.book, files.events, args.title)
+    desk.write_bytes(args.svg, svg.document(root).encode("utf-8"), model.files_of(args.folder))
+    warn_of_size(root)
+    return files.status()
 
 
 if __name__ == "__main__":

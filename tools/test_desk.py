@@ -3,13 +3,18 @@
 
     python3 tools/test_desk.py
 
-It needs Python's standard library only, and writes to a temporary folder. What is expected is document 01's, or was decided
-by other programs: the books of book_cases with their numbers, the page of the sample close.
+It needs Python's standard library only, and writes to a temporary folder. Where mypy (Debian: mypy) is there it checks the
+annotations, where cargo is there it builds what bench/run load needs. What is expected is document 01's, or was decided by
+other programs: the books of book_cases with their numbers, the prices of the sample close.
 """
+import contextlib
 import math
 import os
 import pathlib
 import random
+import resource
+import shutil
+import stat
 import struct
 import subprocess
 import sys
@@ -18,6 +23,7 @@ import unittest
 import xml.etree.ElementTree
 
 import book
+import book_bytes
 import desk
 import events
 import history
@@ -33,6 +39,10 @@ PICTURES = {  # those of docs/, with their titles
     SAMPLE: ("sample-close.svg", "The sample close: twenty bonds on four machines, one of which dies"),
     FIRST: ("first-run.svg", "A first run: three bonds on three machines"),
 }
+
+ANNOTATED = ["book.py", "book_bytes.py", "desk.py", "events.py", "history.py", "make_sample.py", "model.py", "picture.py", "svg.py", "vector_files.py"]
+
+SVG_TEXT = "{http://www.w3.org/2000/svg}text"  # by the standard
 
 HEADER = "identifier,kind,periods,coupon,yield\n"
 GOOD = "ZZ0000000016,fixed,2,4,0\n"
@@ -78,10 +88,10 @@ ZZ0000000024 open replica 1
 """
 
 
-def tool(name, *arguments, output=subprocess.PIPE, before=None):
+def tool(name, *arguments, output=subprocess.PIPE, errors=subprocess.PIPE, before=None):
     """Runs a tool as the desk does."""
     command = [sys.executable, str(ROOT / "tools" / name), *map(os.fsencode, map(str, arguments))]
-    return subprocess.run(command, stdout=output, stderr=subprocess.PIPE, preexec_fn=before, timeout=60, check=False)
+    return subprocess.run(command, stdout=output, stderr=errors, preexec_fn=before, timeout=60, check=False)
 
 
 def book_cases():
@@ -94,17 +104,25 @@ def book_cases():
             at += 6 + length + 25 * questions
 
 
+def names(count):
+    """Identifiers that pass, all different."""
+    return [book_bytes.with_check_digit(b"ZZ%09d" % i) for i in range(count)]
+
+
+def entries_of(terms):
+    """An entry for each term."""
+    return [book_bytes.Entry(name, *term) for name, term in zip(names(len(terms)), terms)]
+
+
 def random_run(seed, machines, entries, count):
     """A book and events most of which are accepted; deaths and broken events among them."""
     rng = random.Random(seed)
-    names = [b"ZZ%09d" % i for i in range(entries)]
-    terms = [(book.FIXED, rng.randint(1, 240), 0, 100 * rng.random(), rng.random()) for _ in names]
-    bonds = [book.Entry(name + b"%d" % book.check_digit(name), *term) for name, term in zip(names, terms)]
+    bonds = entries_of([(book_bytes.FIXED, rng.randint(1, 240), 0, 100 * rng.random(), rng.random()) for _ in range(entries)])
     table, found = model.Table(machines, bonds), []
     for _ in range(count):
         found.append(random_event(rng, table))
         table.step(found[-1])
-    return book.book_of(machines, bonds), b"".join(found)
+    return book_bytes.book_of(machines, bonds), b"".join(found)
 
 
 def random_event(rng, table):
@@ -137,10 +155,9 @@ class Folder(unittest.TestCase):
         """It failed, and said why."""
         said = done.stderr.decode("utf-8")
         self.assertNotIn("Traceback", said)
-        self.assertIn(done.returncode, (1, 2))
+        self.assertIn(done.returncode, (1, 2, 3))
         for word in words or [": "]:
             self.assertIn(word, said)
-
 
     def assert_lines(self, done, *lines):
         """It failed, and the lines on standard error, after the tool's name, begin so."""
@@ -166,7 +183,7 @@ class Books(Folder):
         cases = list(book_cases())
         self.assertEqual(len(cases), 689)
         for number, data in cases:
-            self.assertEqual(book.number_of(data), number)
+            self.assertEqual(book_bytes.number_of(data), number)
 
     def test_every_accepted_book_comes_back(self):
         accepted = [data for number, data in book_cases() if number == 0]
@@ -176,11 +193,9 @@ class Books(Folder):
 
     def test_rates_come_back_bit_for_bit(self):
         rates = [0.0, -0.0, 5e-324, 0.1, 1 / 3, math.nextafter(1.0, 0.0), 1.0]
-        names = [b"ZZ%09d" % i for i in range(len(rates) ** 2)]
-        names = [name + b"%d" % book.check_digit(name) for name in names]
-        terms = [(book.FIXED, 2, 0, coupon, ytm) for coupon in rates for ytm in rates]
-        data = book.book_of(2, [book.Entry(name, *term) for name, term in zip(names, terms)])
-        self.assertEqual(book.number_of(data), 0)
+        terms = [(book_bytes.FIXED, 2, 0, coupon, ytm) for coupon in rates for ytm in rates]
+        data = book_bytes.book_of(2, entries_of(terms))
+        self.assertEqual(book_bytes.number_of(data), 0)
         self.assertEqual(book.make(book.show(data)), data)
 
     def test_commands(self):
@@ -229,7 +244,7 @@ class Books(Folder):
             self.assertEqual(self.make(text)[1], plain)
 
     def test_refused_2(self):
-        rows = "".join(f"{name}{book.check_digit(name.encode())},zero,1,,0\n" for name in (f"ZZ{i:09}" for i in range(65)))
+        rows = "".join(f"{name.decode()},zero,1,,0\n" for name in names(65))
         self.assert_refused(HEADER + rows, "65 bonds", "refused 2")
         for machines in ("1", "17", "-1", "70000"):
             self.assert_refused(HEADER + GOOD, "machines", machines, "refused 2", options=["--machines=" + machines])
@@ -254,6 +269,80 @@ class Books(Folder):
                 ("fixed,2,100.00000000000002,0", "coupon"), ("fixed,2,nan,0", "coupon"), ("fixed,2,inf,0", "coupon"), ("fixed,2,4,-0.5", "yield"),
                 ("fixed,2,4,1.0000000000000002", "yield"), ("fixed,2,4,nan", "yield"), ("zero,2,1,0", "coupon"), ("zero,2,-0.0,0", "coupon")):
             self.assert_refused(HEADER + GOOD + "ZZ0000000024," + row + "\n", f"row 3, column {column}", "refused 7")
+        self.assert_refused(HEADER + "ZZ0000000016,fixed,2,4,4.25\n", "4.25 is outside 0 to 1; 4.25 percent is written 0.0425")
+
+    def test_identifiers_that_may_be_meant(self):
+        """A corrected form is offered where it would pass, and the character in the way is named."""
+        for cell, words, meant in (
+                ("us0378331005", "character 1 is 'u', and A to Z is expected there", True), ("US0378331005 ", "character 13 is a space", True),
+                ("US0378331005\u00a0", "'US0378331005<a no-break space>' is no identifier: character 13 is a no-break space", True),
+                ("\u200bUs0378331005", "character 1 is zero width space (U+200B)", True), ("US\t0378331005", "character 3 is a tab", True),
+                ("us0378331006", "character 1 is 'u'", False), ("US037833100", "it has 11 characters, and an identifier has 12", False),
+                ("US03783310O5 ", "character 13 is a space", False), ("zz0000000016", "character 1 is 'z'", False),
+                ("ZZ00000000\u00e96", "character 11 is latin small letter e with acute (U+00E9), and A to Z or 0 to 9", False),
+                ("ZZ000000001\u0661", "character 12 is arabic-indic digit one (U+0661), and 0 to 9 is expected", False)):
+            done = self.make(HEADER + GOOD + f'"{cell}",zero,2,,0.5\n')[0]
+            self.assert_message(done, "row 3, column identifier: ", words, "(refused 4)")
+            self.assertEqual("did you mean US0378331005?" in done.stderr.decode(), meant, cell)
+            self.assertEqual("did you mean" in done.stderr.decode(), meant, cell)
+            self.assertNotIn(b"\\", done.stderr)
+        done = self.make(HEADER + "zz0000000016,zero,2,,0\nZz0000000016,zero,2,,0\n")[0]
+        self.assertEqual(done.stderr.count(b"did you mean ZZ0000000016?"), 1)  # the second would be refused 6
+        faulty = book.make(LISTING_BOOK).replace(b"ZZ0000000024", b"ZZ000\xff000024")
+        self.assert_message(tool("book.py", "show", self.file("f.bin", faulty)), "character 6 is the byte 255")
+
+    def test_headers(self):
+        """What is found, where, and what is expected."""
+        expected = "is not the header identifier,kind,periods,coupon,yield: "
+        for row, words in (
+                ("identifier;kind;periods;coupon;yield", "its cells are parted by semicolons, not by commas"),
+                ("identifier\tkind\tperiods\tcoupon\tyield", "its cells are parted by tabs, not by commas"),
+                ("identifier,kind,periods,yield,coupon", "column 4 is 'yield', and coupon is expected there"),
+                ("identifier,kind,coupon", "it has no periods and no yield"), ("ISIN,kind,periods,coupon,yield", "it has no identifier"),
+                ("identifier,kind,periods,coupon,yield,price", "column 6 is 'price', and there are 5 columns"),
+                (GOOD.strip(), "it has none of the columns")):
+            done, written = self.make("# a comment\n\n" + row + "\n" + GOOD)
+            self.assert_lines(done, "row 3: '" + row.replace("\t", "<a tab>") + "' " + expected + words, str(self.folder))
+            self.assertIsNone(written)
+        self.assert_refused("# machines 3\n", "the header identifier,kind,periods,coupon,yield is missing")
+        self.assert_refused(HEADER + GOOD.replace(",", ";"), "row 2: its cells are parted by semicolons, not by commas")
+
+    def test_rates_in_the_other_unit(self):
+        """A warning stops nothing. Document 01's examples, with a yield of 0.5, have none."""
+        coupon = "warning: row 3, column coupon: 0.045 is taken as 0.045 per 100 of face; a coupon of 4.5 percent is written 4.5"
+        ytm = "warning: row 3, column yield: 0.95 is taken as 95 percent; a yield of 0.95 percent is written 0.0095"
+        for terms, lines in (("fixed,2,0.045,0.05", [coupon]), ("fixed,2,4,0.95", [ytm]), ("zero,2,,0.95", [ytm]), ("fixed,2,0.045,0.95", [coupon, ytm]),
+                             ("fixed,2,0.25,0.5", []), ("fixed,2,0,0", []), ("zero,2,,0.5", []), ("fixed,2,100,0.05", [])):
+            done, written = self.make(f"# machines 4\n{HEADER}ZZ0000000016,{terms}\n")
+            said = [line.split(": ", 1)[1] for line in done.stderr.decode().splitlines()]
+            self.assertEqual((done.returncode, said), (0, lines), terms)
+            self.assertEqual(book_bytes.number_of(written), 0)
+        rows = "".join(f"{name.decode()},fixed,2,0.01,0.99\n" for name in names(64))
+        done = self.make("# machines 4\n" + HEADER + rows)[0]
+        self.assertEqual((done.returncode, len(done.stderr.splitlines())), (0, 21))
+        self.assertIn(b"and 108 more warnings", done.stderr)
+
+    def test_too_many_bonds(self):
+        """Refused at once, whatever else is wrong with them."""
+        self.assert_lines(self.make(HEADER + GOOD * 60000)[0], "60000 bonds, and a book has 64 at most (refused 2)", str(self.folder))
+        done, written = self.make(HEADER + GOOD * 60000, "--anyway")
+        self.assertEqual((done.returncode, len(written)), (0, 4 + 31 * 60000))
+
+    def test_the_first_faults_are_named(self):
+        lines = [f"row {row}, column identifier" for row in range(3, 23)]
+        self.assert_lines(self.make(HEADER + GOOD * 64)[0], *lines, "and 43 more faults", str(self.folder))
+        comments = "# machines many\n" * 21
+        self.assert_lines(self.make(comments + HEADER)[0], *(f"row {row}: " for row in range(1, 21)), "and 1 more fault", str(self.folder))
+
+    def test_statuses(self):
+        """3 where the book is refused or would be, 1 where a cell has no meaning."""
+        for text, options, status in (
+                (HEADER + GOOD, [], 0), (HEADER + GOOD + GOOD, [], 3), (HEADER + GOOD, ["--machines=1"], 3), (HEADER + GOOD * 65, [], 3),
+                (HEADER + GOOD + GOOD, ["--anyway"], 0), (HEADER + "ZZ0000000016,bill,2,4,0\n", [], 1), (HEADER + "ZZ0000000017,bill,2,4,0\n", [], 3),
+                ("# machines many\n" + HEADER, [], 1), (GOOD, [], 1), (HEADER + GOOD, ["--machines=x"], 2)):
+            self.assertEqual(self.make(text, *options)[0].returncode, status, (text, options))
+        for data, status in ((book.make(LISTING_BOOK), 0), (b"", 3), (book.make(LISTING_BOOK)[:-1], 3), (b"\x02\0\x01\0" + bytes(31), 3)):
+            self.assertEqual(tool("book.py", "show", self.file("s.bin", data)).returncode, status)
 
     def test_every_fault_is_named(self):
         text = HEADER + "ZZ0000000017,fixed,0,101,2\n# between\n" + GOOD + GOOD
@@ -266,7 +355,9 @@ class Books(Folder):
                 ("ZZ0000000016,fixed,two,4,0", "row 2, column periods"), ("ZZ0000000016,fixed,2.5,4,0", "row 2, column periods"),
                 ("ZZ0000000016,fixed,2,,0", "row 2, column coupon"), ("ZZ0000000016,fixed,2,4%,0", "row 2, column coupon"),
                 ("ZZ0000000016,fixed,2,4,", "row 2, column yield"), ("ZZ0000000016,fixed,2,4", "row 2: 4 cells"),
-                ("ZZ0000000016,fixed," + "9" * 5000 + ",4,0", "row 2, column periods"), ('"ZZ0000000016', "CSV")):
+                ("ZZ0000000016,fixed," + "9" * 5000 + ",4,0", "row 2, column periods"), ('"ZZ0000000016', "not a CSV file: line 2: "),
+                ("ZZ0000000016,fixed,2, ,0", "row 2, column coupon: an empty cell is not a number"),
+                ("ZZ0000000016,fixed,2,4,0\u20245", "row 2, column yield: '0\u20245' is not a number: character 2 is one dot leader (U+2024)")):
             self.assert_refused(HEADER + row + "\n", words)
         for text in ("", GOOD, "identifier,kind,periods,yield,coupon\n" + GOOD):
             self.assert_refused(text, "header")
@@ -300,10 +391,10 @@ class Books(Folder):
         for row, number in (("ZZ000000016 ,fixed,2,4,0", 4), ("ZZ0000000017,fixed,2,4,0", 5), ("Z,3,255,nan,9", 4), ("ZZ0000000016,3,2,4,0", 7),
                             ("ZZ0000000016,fixed,241,4,0", 7), ("ZZ0000000016,zero,2,-0.0,0", 7)):
             done, written = self.make(HEADER + row + "\n", "--anyway")
-            self.assertEqual((done.returncode, book.number_of(written)), (0, number))
+            self.assertEqual((done.returncode, book_bytes.number_of(written)), (0, number))
             self.assertIn(f"refused {number}", done.stderr.decode())
-        self.assertEqual(book.number_of(self.make(HEADER + GOOD + GOOD, "--anyway")[1]), 6)
-        self.assertEqual(book.number_of(self.make(HEADER + GOOD, "--anyway", "--machines", "1")[1]), 2)
+        self.assertEqual(book_bytes.number_of(self.make(HEADER + GOOD + GOOD, "--anyway")[1]), 6)
+        self.assertEqual(book_bytes.number_of(self.make(HEADER + GOOD, "--anyway", "--machines", "1")[1]), 2)
         (self.folder / "book.bin").unlink()
         self.assert_refused(HEADER + "ZZ0000000016,fixed,256,4,0\n", "too large", options=["--anyway"])
 
@@ -313,7 +404,7 @@ class Books(Folder):
                 (1, b""), (1, good[:3]), (2, b"\x01" + good[1:]), (2, good[:2] + b"\xff\xff"), (3, good[:-1]), (3, good + b"\0"),
                 (4, good[:14] + b"\xff" + good[15:]), (5, good[:15] + b"7" + good[16:]), (6, good[:16] + good[4:16] + good[28:]),
                 (7, good[:28] + b"\x09" + good[29:]), (7, good[:30] + b"\x01" + good[31:])):
-            self.assertEqual(book.number_of(data), number)
+            self.assertEqual(book_bytes.number_of(data), number)
             self.assert_message(tool("book.py", "show", self.file("f.bin", data)), f"refused {number}")
 
 
@@ -345,9 +436,16 @@ class Events(Folder):
 
     def test_faults_say_why(self):
         for line, words in (
-                ("admit 256", "256 is above 255"), ("raw 1 2 300", "300 is above 255"), ("die " + "9" * 5000, "is above 255"),
-                ("Steal 1 from 0", "words are lower case"), ("steal 1 FROM 0", "words are lower case"), ("steal 1 0", "steal N from N"),
-                ("admit -1", "admit N, and N is 0 to 255"), ("raw 1 2 3 4", "raw N N N"), ("stael 1 from 0", "'stael' is none of admit, steal")):
+                ("admit 256", "'256' is above 255"), ("raw 1 2 300", "'300' is above 255"), ("die " + "9" * 5000, "999...' is above 255"),
+                ("Steal 1 from 0", "words are lower case; did you mean steal 1 from 0?"), ("steal 1 FROM 0", "did you mean steal 1 from 0?"),
+                ("steal 1 0", "it is written steal MACHINE from MACHINE"), ("admit", "it is written admit ENTRY"),
+                ("admit US0378331005", "'US0378331005' is not an entry number 0 to 255: the bond's place in the book, counted from 0"),
+                ("start 1 job US0378331005", "'US0378331005' is not an entry number"), ("Admit zero", "'zero' is not an entry number"),
+                ("admit -1", "'-1' is not an entry number"), ("steal one from 0", "'one' is not a machine number 0 to 255"),
+                ("admit \uff10", "character 7 is fullwidth digit zero (U+FF10)"), ("admit 0\u200b", "character 8 is zero width space (U+200B)"),
+                ("raw 1 2 3 4", "raw BYTE BYTE BYTE"), ("raw x", "'x' is not a byte"), ("RAW 1 2 3", "did you mean raw 1 2 3?"),
+                ("ADMIT 256", "it is written admit ENTRY, in numbers 0 to 255"),
+                ("stael 1 from 0", "'stael' is none of admit, steal")):
             with self.assertRaises(desk.Stop) as found:
                 events.make(line)
             self.assertIn("line 1: ", str(found.exception))
@@ -359,6 +457,12 @@ class Events(Folder):
         done = tool("events.py", "make", self.file("e.txt", "admit\nraw 1\n\nraw 256\nraw 1 2\nsteal\n"), self.folder / "events.bin")
         self.assert_lines(done, "line 1", "line 2", "line 4", "line 5", "line 6", str(self.folder))
         self.assert_message(done, "events.bin is not written; the old one is left as it was")
+
+    def test_the_first_faults_are_named(self):
+        lines = [f"line {place}: " for place in range(1, 21)]
+        for count, more in ((20, []), (21, ["and 1 more fault"]), (200000, ["and 199980 more faults"])):
+            done = tool("events.py", "make", self.file("e.txt", "admit x\n" * count), self.folder / "events.bin")
+            self.assert_lines(done, *lines, *more, str(self.folder))
 
     def test_commands(self):
         path = self.file("e.txt", LISTING_EVENTS)
@@ -380,9 +484,18 @@ class Model(Folder):
         self.assertEqual(tool("model.py", self.folder).stdout.decode(), LISTING_PAGE)
 
     def test_programs(self):
-        for crate in ("rakhvide", "sample_close"):
+        """The pages that the programs must print; no_files has no folder of data."""
+        for crate, status in (("rakhvide", 0), ("sample_close", 0), ("refused_book", 3), ("long_list", 0), ("broken_event", 0)):
             done = tool("model.py", CRATES / crate / "data")
-            self.assertEqual(done.stdout, (CRATES / crate / "stdout").read_bytes())
+            self.assertEqual((done.stdout, done.returncode, done.stderr), ((CRATES / crate / "stdout").read_bytes(), status, b""))
+        self.assertEqual(tool("model.py", self.folder).stdout, (CRATES / "no_files" / "stdout").read_bytes())
+        self.assertFalse((CRATES / "no_files" / "data").exists())
+
+    def test_program_files(self):
+        """The bytes that the pages of long_list and broken_event are about."""
+        data = (CRATES / "long_list" / "data" / "events.bin").read_bytes()
+        self.assertEqual((len(data), events.show(data[59997:])), (60006, "die 0\nadmit 0\ndie 0\n"))
+        self.assertEqual((CRATES / "broken_event" / "data" / "events.bin").read_bytes()[9:], bytes([1, 1]))
 
     def test_decimal(self):
         self.file("book.bin", book.make(LISTING_BOOK))
@@ -397,12 +510,12 @@ class Model(Folder):
             self.assertEqual(struct.pack(">d", float(decimal)).hex().upper(), bits)
 
     def test_prices(self):
-        for terms, price in (((book.FIXED, 2, 0, 4.0, 0.0), 104), ((book.ZERO, 2, 0, 0.0, 0.5), 64), ((book.FIXED, 1, 0, 10.0, 0.5), 84)):
-            self.assertEqual(model.price_of(book.Entry(b"ZZ0000000016", *terms)), price)
+        terms = [(book_bytes.FIXED, 2, 0, 4.0, 0.0), (book_bytes.ZERO, 2, 0, 0.0, 0.5), (book_bytes.FIXED, 1, 0, 10.0, 0.5)]
+        self.assertEqual([model.price_of(entry) for entry in entries_of(terms)], [104, 64, 84])
 
     def table(self, text, machines=3):
         """The table after a list of events, all of which are accepted."""
-        table = model.Table(machines, book.parts(book.make(LISTING_BOOK))[1])
+        table = model.Table(machines, book_bytes.parts(book.make(LISTING_BOOK))[1])
         for event in events.events_of(events.make(text)):
             self.assertEqual(table.step(event), (0, ""))
         return table
@@ -455,19 +568,18 @@ class Model(Folder):
         """Every bond goes by way of 1 to 2, which runs it; its ACK and RESULT stay in flight: 128 messages."""
         moved = ("steal 1 from 0\ndeliver 1 to 0\ndeliver 0 to 0\ndeliver 0 to 0\ndeliver 0 to 1\ndeliver 1 to 0\n"
                  "steal 2 from 1\ndeliver 2 to 1\ndeliver 1 to 0\ndeliver 0 to 1\ndeliver 1 to 2\n")
-        names = [f"ZZ{job:09}" for job in range(64)]
-        rows = "".join(f"{name}{book.check_digit(name.encode())},fixed,2,4,0\n" for name in names)
+        rows = "".join(f"{name.decode()},fixed,2,4,0\n" for name in names(64))
         text = "".join(f"admit {job}\n{moved}start 2 job {job}\ndone 2\n" for job in range(63)) + "admit 63\n" + moved + "start 2 job 63\n"
         last = "steal 0 from 1\ndone 2\nsteal 1 from 0\ndeliver 0 to 1\ndeliver 1 to 0\ndone 2\n"  # FISH makes 128, NOWORK is taken off
         page = model.page(book.make("# machines 3\n" + HEADER + rows), events.make(text + last))
         count = len(text.splitlines())
         self.assertEqual(page.splitlines()[:3], [f"event {count + 2} refused 16", f"event {count + 3} refused 16",
-                                                 f"{names[0]}{book.check_digit(names[0].encode())} open replica 1"])
+                                                 f"{names(1)[0].decode()} open replica 1"])
 
     def test_a_refused_event_changes_nothing(self):
         for seed in range(20):
             data, found = random_run(seed, 4, 5, 150)
-            table = model.Table(*book.parts(data))
+            table = model.Table(*book_bytes.parts(data))
             for event in events.events_of(found):
                 before = repr((table.jobs, table.machines, table.flight))
                 number, condition = table.step(event)
@@ -475,10 +587,25 @@ class Model(Folder):
                 if number:
                     self.assertEqual(repr((table.jobs, table.machines, table.flight)), before)
 
+    def assert_page(self, page, status, *unread):
+        """The folder's page and exit status, and the files that are named as not read."""
+        done = tool("model.py", self.folder)
+        said = [f"model.py: {self.folder / name} cannot be read: {why}; it counts as empty" for name, why in unread]
+        self.assertEqual((done.stdout.decode(), done.returncode, done.stderr.decode().splitlines()), (page, status, said))
+
     def test_files_that_are_not_there(self):
-        self.assertEqual(tool("model.py", self.folder).stdout, b"book refused 1\n")
+        none, bare = "No such file or directory", "ZZ0000000016 not admitted\nZZ0000000024 not admitted\n"
+        self.assert_page("book refused 1\n", 1, ("book.bin", none), ("events.bin", none))
         self.file("book.bin", book.make(LISTING_BOOK))
-        self.assertEqual(tool("model.py", self.folder).stdout, b"ZZ0000000016 not admitted\nZZ0000000024 not admitted\n")
+        self.assert_page(bare, 1, ("events.bin", none))
+        self.file("events.bin", b"")
+        self.assert_page(bare, 0)
+        self.file("book.bin", b"")
+        self.assert_page("book refused 1\n", 3)
+        (self.folder / "book.bin").unlink()
+        self.assert_page("book refused 1\n", 1, ("book.bin", none))
+        (self.folder / "book.bin").mkdir()
+        self.assert_page("book refused 1\n", 1, ("book.bin", "Is a directory"))
         self.assert_message(tool("model.py", self.folder / "none"), "not a folder")
 
     def test_refused_books_and_long_lists(self):
@@ -496,7 +623,7 @@ class Samples(unittest.TestCase):
         return book.make((folder / "book.csv").read_text()), events.make((folder / "events.txt").read_text())
 
     def test_sample_close_is_the_data_of_the_program(self):
-        self.assertEqual(self.made(SAMPLE), model.read_folder(CRATES / "sample_close" / "data"))
+        self.assertEqual(self.made(SAMPLE), model.read_folder(CRATES / "sample_close" / "data")[:2])
 
     def test_page_of_the_first_run(self):
         """As the README prints it; 104 is document 01's price."""
@@ -504,17 +631,25 @@ class Samples(unittest.TestCase):
 
     def test_pictures_are_those_in_docs(self):
         for folder, (name, title) in PICTURES.items():
-            self.assertEqual((ROOT / "docs" / name).read_text(encoding="utf-8"), picture.picture(*self.made(folder), title))
+            self.assertEqual((ROOT / "docs" / name).read_text(encoding="utf-8"), svg.document(picture.picture(*self.made(folder), title)))
+
+
+@unittest.skipUnless(shutil.which("mypy"), "mypy is not there (Debian: mypy)")
+class Types(Folder):
+    def test_annotations(self):
+        command = ["mypy", "--strict", "--cache-dir", str(self.folder), *(str(ROOT / "tools" / name) for name in ANNOTATED)]
+        done = subprocess.run(command, stdout=subprocess.PIPE, stderr=subprocess.STDOUT, timeout=120, check=False)
+        self.assertEqual(done.returncode, 0, done.stdout.decode())
 
 
 class Picture(Folder):
     def drawn(self, data, found):
         """The words of a picture, which is well-formed."""
-        tree = xml.etree.ElementTree.fromstring(picture.picture(data, found))
-        return ["".join(node.itertext()) for node in tree.iter("{http://www.w3.org/2000/svg}text")]
+        tree = xml.etree.ElementTree.fromstring(svg.document(picture.picture(data, found)))
+        return ["".join(node.itertext()) for node in tree.iter(SVG_TEXT)]
 
     def assert_complete(self, data, found):
-        machines, entries = book.parts(data)
+        machines, entries = book_bytes.parts(data)
         words = self.drawn(data, found)
         for machine in range(machines):
             self.assertTrue(any(text.startswith(f"machine {machine}") for text in words))
@@ -525,7 +660,7 @@ class Picture(Folder):
 
     def test_programs(self):
         for crate in ("rakhvide", "sample_close"):
-            self.assert_complete(*model.read_folder(CRATES / crate / "data"))
+            self.assert_complete(*model.read_folder(CRATES / crate / "data")[:2])
 
     def test_random_runs(self):
         for seed, machines, entries, count in ((1, 2, 1, 80), (2, 2, 0, 5), (3, 16, 64, 300), (4, 5, 9, 400), (5, 3, 4, 0), (6, 8, 20, 200)):
@@ -534,7 +669,7 @@ class Picture(Folder):
     def test_no_pill_covers_another(self):
         for seed in range(5):
             data, found = random_run(seed, 6, 10, 200)
-            layout = picture.Layout(history.History(*book.parts(data), found))
+            layout = picture.Layout(history.History(*book_bytes.parts(data), found))
             layout.place_rows(0)
             for lane in layout.lanes:
                 places = sorted(pill.y for (_, machine), pills in layout.pills.items() if machine == lane.machine for pill in pills)
@@ -552,14 +687,15 @@ class Picture(Folder):
         self.file("book.bin", book.make(LISTING_BOOK))
         for title in ("a\udcffb", "a\x01b", "\x1b[1m", "\ufffe"):
             done = tool("picture.py", self.folder, self.folder / "out.svg", "--title", title)
-            self.assert_lines(done, "the title has the character")
+            self.assert_lines(done, "character ", str(self.folder))
+            self.assertIn(b"which XML does not have", done.stderr)
             self.assertFalse((self.folder / "out.svg").exists())
 
     def test_long_titles(self):
         data = book.make(LISTING_BOOK)
         for title in ("A long title of a run " * 9, "\u503a" * 80, "i" * 100000):
-            tree = xml.etree.ElementTree.fromstring(picture.picture(data, b"", title))
-            shown = next(tree.iter("{http://www.w3.org/2000/svg}text"))
+            tree = xml.etree.ElementTree.fromstring(svg.document(picture.picture(data, b"", title)))
+            shown = next(tree.iter(SVG_TEXT))
             self.assertTrue(shown.text.endswith("\u2026") and title.startswith(shown.text[:-1]))
             self.assertLess(float(shown.get("x")) + svg.width_of(shown.text, svg.BOLD * 21), float(tree.get("width")) - 20)
             self.assertGreater(len(shown.text), 30)
@@ -567,13 +703,12 @@ class Picture(Folder):
 
     def test_long_rates(self):
         """Terms and states are whole, and none covers another or leaves the picture."""
-        terms = [(book.FIXED, 240, 0, 100 / 3, 1 / 3), (book.FIXED, 240, 0, 2.2250738585072014e-308, 1.2345678901234568e-300),
-                 (book.FIXED, 240, 0, 100.0, 0.0), (book.ZERO, 1, 0, 0.0, 0.5)]
-        names = [b"ZZ%09d" % i for i in range(len(terms))]
-        bonds = [book.Entry(name + b"%d" % book.check_digit(name), *term) for name, term in zip(names, terms)]
+        terms = [(book_bytes.FIXED, 240, 0, 100 / 3, 1 / 3), (book_bytes.FIXED, 240, 0, 2.2250738585072014e-308, 1.2345678901234568e-300),
+                 (book_bytes.FIXED, 240, 0, 100.0, 0.0), (book_bytes.ZERO, 1, 0, 0.0, 0.5)]
+        bonds = entries_of(terms)
         found = "".join(f"admit {i}\nstart 0 job {i}\ndone 0\ndeliver 0 to 0\n" for i in range(len(terms)))
-        tree = xml.etree.ElementTree.fromstring(picture.picture(book.book_of(2, bonds), events.make(found)))
-        texts = {node.text: node for node in tree.iter("{http://www.w3.org/2000/svg}text")}
+        tree = xml.etree.ElementTree.fromstring(svg.document(picture.picture(book_bytes.book_of(2, bonds), events.make(found))))
+        texts = {node.text: node for node in tree.iter(SVG_TEXT)}
         self.assertIn(f"coupon {100 / 3!r}, 240 half-years at {1 / 3!r}", texts)
         self.assertIn("coupon 2.2250738585072014e-308, 240 half-years at 1.2345678901234568e-300", texts)
         end = {words: float(node.get("x")) + svg.width_of(words, float(node.get("font-size"))) for words, node in texts.items() if words}
@@ -589,13 +724,181 @@ class Picture(Folder):
             self.assertEqual((done.returncode, b"32767" in done.stderr), (0, told))
             self.assertTrue((self.folder / "out.svg").exists())
 
-    def test_refused_book(self):
-        self.file("book.bin", b"\x02\0\x01\0")
-        self.assert_message(tool("picture.py", self.folder, self.folder / "out.svg"), "book refused 3")
-        self.assertFalse((self.folder / "out.svg").exists())
+    def test_statuses(self):
+        """A file that is not read is 1, a refused book 3; without events there is a picture all the same."""
+        out = self.folder / "out.svg"
+        for data, found, status, lines in (
+                (None, None, 1, ["/", "/", "book refused 1: there is no run to draw", str(out)]), (None, b"", 1, ["/", "book refused 1", str(out)]),
+                (b"\x02\0\x01\0", b"", 3, ["book refused 3", str(out)]), (b"\x02\0\x01\0", None, 1, ["/", "book refused 3", str(out)]),
+                (book.make(LISTING_BOOK), None, 1, [f"{self.folder / 'events.bin'} cannot be read: No such file"]),
+                (book.make(LISTING_BOOK), b"", 0, [])):
+            for name, content in (("book.bin", data), ("events.bin", found)):
+                (self.folder / name).unlink(missing_ok=True)
+                if content is not None:
+                    self.file(name, content)
+            out.unlink(missing_ok=True)
+            done = tool("picture.py", self.folder, out)
+            said = [line.split(": ", 1)[1] for line in done.stderr.decode().splitlines()]
+            self.assertEqual((done.returncode, len(said)), (status, len(lines)), said)
+            self.assertTrue(all(line.startswith(start) for line, start in zip(said, lines)), said)
+            self.assertEqual(out.exists(), "there is no run" not in done.stderr.decode())
+
+
+def small_files():
+    """For a process: no file longer than 8 bytes can be written, as on a full disk."""
+    resource.setrlimit(resource.RLIMIT_FSIZE, (8, 8))
+
+
+@contextlib.contextmanager
+def no_root():
+    """Root may write everywhere."""
+    user = os.geteuid()
+    if user == 0:
+        os.seteuid(65534)
+    try:
+        yield
+    finally:
+        os.seteuid(user)
+
+
+class Writing(Folder):
+    """An output is whole, or as it was before."""
+
+    def making(self, out):
+        """A command for each kind of output, and what it writes."""
+        rows, lines, run = self.file("b.csv", LISTING_BOOK), self.file("e.txt", LISTING_EVENTS), CRATES / "rakhvide" / "data"
+        drawn = svg.document(picture.picture(book.make(LISTING_BOOK), events.make(LISTING_EVENTS)))
+        return ((["book.py", "make", rows, out], book.make(LISTING_BOOK)), (["events.py", "make", lines, out], events.make(LISTING_EVENTS)),
+                (["picture.py", run, out], drawn.encode("utf-8")))
+
+    def assert_untouched(self, out, old):
+        self.assertEqual(out.read_bytes() if out.exists() else None, old)
+        self.assertEqual({path.name for path in self.folder.iterdir()} - {out.name}, {"b.csv", "e.txt"})
+
+    def test_a_full_disk(self):
+        out = self.folder / "out"
+        for old in (None, b"old and longer than eight bytes"):
+            for command, _ in self.making(out):
+                if old is not None:
+                    out.write_bytes(old)
+                self.assert_lines(tool(*command, before=small_files), f"{out} cannot be written: File too large")
+                self.assert_untouched(out, old)
+
+    def test_modes(self):
+        out = self.folder / "out"
+        for command, data in self.making(out):
+            self.assertEqual(tool(*command, before=lambda: os.umask(0o027)).returncode, 0)
+            self.assertEqual((out.read_bytes(), out.stat().st_mode & 0o7777), (data, 0o640))
+            out.chmod(0o604)
+            out.write_bytes(b"old")
+            self.assertEqual(tool(*command).returncode, 0)
+            self.assertEqual((out.read_bytes(), out.stat().st_mode & 0o7777), (data, 0o604))
+            out.unlink()
+
+    @unittest.skipUnless(os.geteuid() == 0, "only root gives files away")
+    def test_owners(self):
+        out = self.file("out", "old")
+        os.chown(out, 4321, 8765)
+        desk.write_bytes(out, b"new", [])
+        self.assertEqual((out.read_bytes(), out.stat().st_uid, out.stat().st_gid), (b"new", 4321, 8765))
+
+    def test_links(self):
+        """The file that a link points to is replaced, or made, and the link stays."""
+        (self.folder / "far").mkdir()
+        link, far = self.folder / "link", self.folder / "far" / "out"
+        link.symlink_to("far/out")
+        for command, data in self.making(link):
+            self.assertEqual(tool(*command).returncode, 0)
+            self.assertEqual((os.readlink(link), far.is_symlink(), far.read_bytes()), ("far/out", False, data))
+        self.assertEqual(list((self.folder / "far").iterdir()), [far])
+        loop = self.folder / "loop"
+        loop.symlink_to("loop")
+        self.assert_message(tool("book.py", "make", self.folder / "b.csv", loop), "loop cannot be written")
+        self.assertTrue(loop.is_symlink())
+
+    def test_outputs_that_are_no_files(self):
+        out = self.folder / "out"
+        for command, data in self.making("/dev/stdout"):
+            done = tool(*command)
+            self.assertEqual((done.returncode, done.stdout), (0, data))
+            with open(out, "wb") as output:
+                self.assertEqual(tool(*command, output=output).returncode, 0)
+                self.assertEqual(os.fstat(output.fileno()).st_size, len(data))  # the file that is open, and not another in its place
+            self.assertEqual(out.read_bytes(), data)
+
+    def test_a_pipe(self):
+        pipe = self.folder / "pipe"
+        os.mkfifo(pipe)
+        for command, data in self.making(pipe):
+            with subprocess.Popen(["cat", pipe], stdout=subprocess.PIPE) as reader:
+                done = tool(*command)
+                if not stat.S_ISFIFO(os.lstat(pipe).st_mode):
+                    reader.kill()
+                    self.fail("a file took the place of the pipe")
+                self.assertEqual((done.returncode, reader.communicate(timeout=60)[0]), (0, data))
+
+    @unittest.skipUnless(os.path.exists("/dev/full"), "a device of Linux")
+    def test_a_device_that_is_full(self):
+        """Not as root, who could put a file in the place of the device."""
+        with no_root(), self.assertRaisesRegex(desk.Stop, "^/dev/full cannot be written: No space left on device$"):
+            desk.write_bytes("/dev/full", b"data", [])
+
+    def test_files_and_folders_that_are_protected(self):
+        out = self.file("out", "old")
+        for file_mode, folder_mode, words in ((0o444, 0o777, "out cannot be written: Permission denied"),
+                                              (0o666, 0o555, "takes no new file: Permission denied")):
+            out.chmod(file_mode)
+            self.folder.chmod(folder_mode)
+            with no_root(), self.assertRaisesRegex(desk.Stop, words):
+                desk.write_bytes(out, b"new", [])
+            self.folder.chmod(0o700)
+            self.assertEqual((out.read_bytes(), list(self.folder.iterdir())), (b"old", [out]))
+
+
+class Bench(Folder):
+    """bench/run says what it needs before it begins."""
+
+    def run_bench(self, *arguments, path=None):
+        environment = dict(os.environ) if path is None else {**os.environ, "PATH": str(path)}
+        return subprocess.run([ROOT / "bench" / "run", *arguments], env=environment, stdout=subprocess.PIPE, stderr=subprocess.PIPE,
+                              timeout=120, check=False)
+
+    def assert_said(self, done, status, line):
+        self.assertEqual((done.returncode, done.stderr.decode().splitlines(), done.stdout), (status, [f"bench/run: {line}"], b""))
+
+    def test_usage(self):
+        for arguments in (["load"], ["load", self.folder, self.folder], ["draw"], ["draw", self.folder]):
+            self.assert_said(self.run_bench(*arguments), 2, "usage: bench/run, or bench/run load FOLDER")
+        self.assert_said(self.run_bench("load", self.folder / "none"), 1, f"{self.folder / 'none'} is not a folder")
+
+    def test_what_is_not_there(self):
+        commands = self.folder / "bin"
+        commands.mkdir()
+        for name in ("bash", "env", "dirname", "realpath"):
+            (commands / name).symlink_to(shutil.which(name))
+        self.assert_said(self.run_bench("load", self.folder, path=commands), 1, "cargo is not there (Debian: cargo)")
+        for name, package in (("cargo", "Debian: cargo"), ("gcc", "Debian: gcc"), ("rt", "the Rattle kit")):
+            self.assert_said(self.run_bench(path=commands), 1, f"{name} is not there ({package})")
+            (commands / name).symlink_to(shutil.which("false"))
+
+    @unittest.skipUnless(shutil.which("cargo"), "cargo is not there (Debian: cargo)")
+    def test_load(self):
+        """It asks for cargo alone."""
+        done = self.run_bench("load", self.folder)
+        self.assertEqual((done.returncode, done.stdout, done.stderr), (0, b"", b""))
+        files = model.read_folder(self.folder)
+        self.assertEqual((book_bytes.number_of(files.book), len(files.book), len(files.events)), (0, 4 + 31 * 64, 60000))
 
 
 class Damage(Folder):
+    def test_help(self):
+        """It tells the exit statuses."""
+        for command in (["book.py"], ["book.py", "make"], ["book.py", "show"], ["events.py"], ["events.py", "make"], ["events.py", "show"],
+                        ["model.py"], ["picture.py"]):
+            shown = " ".join(tool(*command, "--help").stdout.decode().split())
+            self.assertRegex(shown, "The exit status is 0 where .* 1 where .* 2 for a wrong command")
+            self.assertEqual("3 where the book is refused" in shown, command[0] != "events.py")
+
     def test_files_that_cannot_be_read_or_written(self):
         none, good = self.folder / "none", self.file("good.csv", LISTING_BOOK)
         lines = self.file("e.txt", LISTING_EVENTS)
@@ -640,6 +943,16 @@ class Damage(Folder):
             with open("/dev/full", "wb") as full:
                 self.assert_output_fails(command, output=full)
 
+    @unittest.skipUnless(os.path.exists("/dev/full"), "a device of Linux")
+    def test_warnings_that_cannot_be_said(self):
+        """The exit status is the same without them."""
+        rows = self.file("b.csv", LISTING_BOOK.replace(",4,", ",0.04,"))
+        with open("/dev/full", "wb") as full:
+            for how in ({"errors": full}, {"errors": None, "before": lambda: os.close(2)}):
+                self.assertEqual(tool("book.py", "make", rows, self.folder / "new.bin", **how).returncode, 0)
+                self.assertEqual(tool("model.py", CRATES / "refused_book" / "data", **how).returncode, 3)
+                self.assertEqual(tool("model.py", self.folder, **how).returncode, 1)
+
     def test_output_that_is_closed(self):
         for command in self.printing():
             self.assert_output_fails(command, output=None, before=lambda: os.close(1))
@@ -652,8 +965,8 @@ class Damage(Folder):
         rng = random.Random(2)
         for _ in range(400):
             noise = bytes(rng.randrange(256) for _ in range(rng.randrange(80)))
-            for read in (lambda: book.make(desk.read_text(self.file("n", noise))), lambda: book.show(noise) if not book.shape_fault(noise) else "",
-                         lambda: events.make(desk.read_text(self.file("n", noise))), lambda: picture.picture(noise, noise)):
+            for read in (lambda: book.make(desk.read_text(self.file("n", noise))), lambda: book.show(noise) if not book_bytes.shape_fault(noise) else "",
+                         lambda: events.make(desk.read_text(self.file("n", noise)))):
                 try:
                     read()
                 except desk.Stop as stop:
@@ -667,7 +980,7 @@ class Damage(Folder):
             for _ in range(rng.randint(1, 3)):
                 damaged[rng.randrange(len(damaged))] = rng.choice([0, 10, 34, 44, 48, 65, 195, rng.randrange(256)])
             try:
-                self.assertEqual(book.number_of(book.make(desk.read_text(self.file("d.csv", bytes(damaged))))), 0)
+                self.assertEqual(book_bytes.number_of(book.make(desk.read_text(self.file("d.csv", bytes(damaged))))), 0)
             except desk.Stop as stop:
                 self.assertTrue(str(stop))
 

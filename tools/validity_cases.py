@@ -13,10 +13,9 @@ job 1 is priced with replica 2, on 3; job 2 is not admitted. Machine 1 has the c
 waits on 0; machine 2 runs (job 1, replica 2). The pool of 0 has job 1 with replica 2, that of 2 has job 0 with replica 1.
 In flight are FISH from 2 to 1, AUTH (job 0, replica 1, thief 2) from 0 to 1, RESULT (job 1, replica 2, a price) from 2 to 0.
 """
-import pathlib
-import sys
+from vector_files import ROOT, fail_unless
 
-CRATE = pathlib.Path(__file__).resolve().parent.parent / "crates" / "validity_cases"
+CRATE = ROOT / "crates" / "validity_cases"
 LABEL = 40  # bytes of a label
 CHANGES = 8  # changes of a case at most
 
@@ -149,11 +148,6 @@ CASES += [("no death told, replica 1", LOWER, 0)]
 CASES += [(f"no death told, {what} 2", [change for change in LOWER if change[0] != name], 9)
           for what, name in (("job", "replica"), ("pool", "pool"), ("running", "running_replica"), ("message", "copy"))]
 CASES += [("no death told, reserved 2", LOWER + [("reserved_replica", 1, 2)], 9)]
-
-
-def fail_unless(condition, message):
-    if not condition:
-        sys.exit("validity_cases.py: " + message)
 
 
 def packed(change):

@@ -6,15 +6,6 @@ mod prices;
 mod timing;
 
 fn main() {
-    let arguments: Vec<String> = std::env::args().skip(1).collect();
-    match arguments.iter().map(String::as_str).collect::<Vec<_>>()[..] {
-        [] => tables(),
-        ["load", folder] => events::write_load(folder, 16, 20_000),
-        _ => panic!("bench/run, or bench/run load FOLDER"),
-    }
-}
-
-fn tables() {
     println!("### Prices\n");
     prices::table();
     println!("\n### Events, by how many there are\n");

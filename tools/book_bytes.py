@@ -1,0 +1,172 @@
+"""The bytes of a book, and document 01's rules for them. For the desk's tools and make_sample.py.
+
+It is not run by itself, and needs Python's standard library only. This is the one place where they read or write the bytes of
+a book. make_book_cases.py has functions of its own, so that what it decides is a test of these (test_desk.py).
+"""
+import collections.abc
+import string
+import struct
+import typing
+import unicodedata
+
+import desk
+
+ZERO, FIXED = 1, 2  # the kinds
+MOST_ENTRIES = 64
+SIZES = struct.Struct("<HH")  # machine count, entry count
+TERM = struct.Struct("<BBBdd")  # kind, periods, spare, coupon, yield
+LETTERS, DIGITS = (string.ascii_uppercase, "A to Z"), (string.digits, "0 to 9")
+EITHER = (LETTERS[0] + DIGITS[0], "A to Z or 0 to 9")
+FORM = [LETTERS] * 2 + [EITHER] * 9 + [DIGITS]  # of an identifier: for each place the characters, and how they are called
+DOUBLED = [0, 2, 4, 6, 8, 1, 3, 5, 7, 9]
+SHOWN_ROWS = range(3, 3 + MOST_ENTRIES)  # of the entries as book.py shows them, after the machine count and the header
+
+
+class Entry(typing.NamedTuple):
+    identifier: bytes
+    kind: int
+    periods: int
+    spare: int
+    coupon: float
+    ytm: float
+
+
+class Fault(typing.NamedTuple):
+    number: int | None  # document 01's; none where a cell has no meaning
+    row: int | None  # of the CSV; none where a size is at fault
+    column: str | None  # none where it is not of one cell
+    text: str
+
+
+# "The identifier".
+
+
+def check_digit(base: bytes) -> int:
+    """The digit that brings the total over the eleven characters and itself to a multiple of ten."""
+    digits = [int(d) for character in base.decode("ascii") for d in str(int(character, 36))]
+    total = sum(DOUBLED[d] if place % 2 == 0 else d for place, d in enumerate(reversed(digits)))
+    return -total % 10
+
+
+def with_check_digit(base: bytes) -> bytes:
+    return base + b"%d" % check_digit(base)
+
+
+def form_fault(text: str) -> str:
+    """What is wrong with the form of an identifier; nothing where it is right."""
+    for place, (allowed, words) in enumerate(FORM):
+        if place == len(text):
+            return f"it has {desk.plural(place, 'character')}, and an identifier has {len(FORM)}"
+        if text[place] not in allowed:
+            return f"character {place + 1} is {desk.named(text[place])}, and {words} is expected there"
+    more = text[len(FORM):]
+    return f"character {len(FORM) + 1} is {desk.named(more[0])}, and an identifier has {len(FORM)}" if more else ""
+
+
+def meant_by(text: str) -> str:
+    """The identifier that a text of another form may stand for: in capitals, without blanks. Empty where none would pass."""
+    plain = "".join(c for c in unicodedata.normalize("NFKC", text) if not c.isspace() and unicodedata.category(c) != "Cf").upper()
+    if form_fault(plain):
+        return ""
+    return plain if str(check_digit(plain[:-1].encode("ascii"))) == plain[-1] else ""
+
+
+def identifier_fault(identifier: bytes, rows: dict[bytes, int], row: int) -> tuple[int, str] | None:
+    """4, 5 or 6, and why. An identifier stands first, or is meant first, in the row that is in rows."""
+    text = identifier.decode("utf-8", "surrogateescape")
+    why = form_fault(text)
+    if why:
+        meant = meant_by(text)
+        hint = f"; did you mean {meant}?" if meant and rows.setdefault(meant.encode("ascii"), row) == row else ""
+        return 4, f"{desk.quoted(text)} is no identifier: {why}{hint}"
+    digit = check_digit(identifier[:-1])
+    if int(text[-1]) != digit:
+        return 5, f"the check digit of {text} is {digit}"
+    return (6, f"{text} is the identifier of row {rows[identifier]} too") if rows[identifier] != row else None
+
+
+# The rules of "The book", and the places Book and Lowest faulty entry of the refusals.
+
+
+def term_faults(entry: Entry) -> collections.abc.Iterator[tuple[str, str]]:
+    """The columns of a term that are outside the rules; all of them are 7. A NaN fails each comparison."""
+    if entry.kind not in (ZERO, FIXED):
+        yield "kind", f"{entry.kind} is neither 1 (zero) nor 2 (fixed)"
+    if not 1 <= entry.periods <= 240:
+        yield "periods", f"{entry.periods} is outside 1 to 240"
+    if entry.spare != 0:
+        yield "spare", f"the spare byte is {entry.spare}, not 0"
+    if not 0 <= entry.coupon <= 100:
+        yield "coupon", f"{entry.coupon!r} is outside 0 to 100"
+    elif entry.kind == ZERO and not is_bare(entry):
+        yield "coupon", f"a zero has no coupon, and this is {entry.coupon!r}"
+    if not 0 <= entry.ytm <= 1:
+        hint = f"; {entry.ytm:g} percent is written {entry.ytm / 100:g}" if 1 < entry.ytm <= 100 else ""
+        yield "yield", f"{entry.ytm!r} is outside 0 to 1{hint}"
+
+
+def is_bare(entry: Entry) -> bool:
+    """Whether the coupon has all 64 bits clear."""
+    return struct.pack("<d", entry.coupon) == bytes(8)
+
+
+def size_faults(machines: int, n: int) -> collections.abc.Iterator[Fault]:
+    if not 2 <= machines <= 16:
+        yield Fault(2, None, None, f"machines: {machines} is outside 2 to 16")
+    if not 0 <= n <= MOST_ENTRIES:
+        yield Fault(2, None, None, f"{n} bonds, and a book has {MOST_ENTRIES} at most")
+
+
+def entry_faults(entries: list[Entry], rows: collections.abc.Sequence[int] = SHOWN_ROWS) -> collections.abc.Iterator[Fault]:
+    """Every fault of the entries, which stand in these rows. The number of a book of the right sizes is that of the first one."""
+    first: dict[bytes, int] = {}
+    for entry, row in zip(entries, rows):
+        first.setdefault(entry.identifier, row)
+    for entry, row in zip(entries, rows):
+        fault = identifier_fault(entry.identifier, first, row)
+        if fault:
+            yield Fault(fault[0], row, "identifier", fault[1])
+        yield from (Fault(7, row, column, text) for column, text in term_faults(entry))
+
+
+def shape_fault(book: bytes) -> Fault | None:
+    """The refusals 1, 2 and 3, after which a book has no entries to look at."""
+    if len(book) < SIZES.size:
+        return Fault(1, None, None, f"{len(book)} bytes, and a book has {SIZES.size} at least")
+    machines, n = SIZES.unpack_from(book)
+    for fault in size_faults(machines, n):
+        return fault
+    if len(book) != 4 + 31 * n:
+        return Fault(3, None, None, f"{len(book)} bytes, and a book of {n} bonds has {4 + 31 * n}")
+    return None
+
+
+def faults(book: bytes) -> collections.abc.Iterator[Fault]:
+    """Every fault of a book, as far as it has a shape."""
+    shape = shape_fault(book)
+    if shape:
+        yield shape
+    else:
+        yield from entry_faults(parts(book)[1])
+
+
+def number_of(book: bytes) -> int:
+    """0, or the number of the book's refusal."""
+    return next((fault.number for fault in faults(book) if fault.number), 0)
+
+
+# The bytes.
+
+
+def parts(book: bytes) -> tuple[int, list[Entry]]:
+    """Machine count and entries of a book without shape_fault."""
+    machines, n = SIZES.unpack_from(book)
+    names = [book[4 + 12 * i:16 + 12 * i] for i in range(n)]
+    terms = [TERM.unpack_from(book, 4 + 12 * n + 19 * i) for i in range(n)]
+    return machines, [Entry(name, *term) for name, term in zip(names, terms)]
+
+
+def book_of(machines: int, entries: list[Entry]) -> bytes:
+    """The book of these entries; an identifier is filled with spaces or cut to 12 bytes."""
+    names = b"".join(entry.identifier.ljust(12)[:12] for entry in entries)
+    return SIZES.pack(machines, len(entries)) + names + b"".join(TERM.pack(*entry[1:]) for entry in entries)
