@@ -1,12 +1,14 @@
 /* Rakhvide's functions for programs in C, and for any language that calls C: the static library that `rt staticlib rakhvide_c` writes.
  *
  * What each function answers is proved for every content of its buffers (crates/rakhvide_c); that this header declares them as they are is not. The bytes
- * of a book, of an event and of a kept table, and what the numbers mean, are in docs/LAYOUT.md. What is left to the caller, and cannot be proved here:
+ * of a book, of an event and of a kept table are in docs/LAYOUT.md, what the numbers mean in docs/PROTOCOL.md. What is left to the caller, and cannot be
+ * proved here:
  *   - a pointer is not null, also where its length is 0, and the bytes from it to its length are there;
  *   - a buffer that is written (no `const`) overlaps no other argument;
  *   - no other thread writes to a buffer during the call.
  * No function keeps a pointer, allocates, or has state of its own: calls on different buffers may run side by side.
- * A number of 0 is accepted, any other a refusal, which leaves every buffer as it was. A call needs up to 64 KiB of stack. */
+ * A number of 0 is accepted. Any other is a refusal, and then nothing that the call was given is written to. rakhvide_page answers no number: see there.
+ * A call needs up to 64 KiB of stack. */
 #ifndef RAKHVIDE_H
 #define RAKHVIDE_H
 
@@ -40,7 +42,7 @@ uint64_t rakhvide_price_fixed(uint8_t periods, double coupon, double yield);
 
 /* The page of a book and a list of events, three bytes each, of which at most 60,000 bytes count.
  * true: the page is the first *written bytes of out, and the rest of out is as it was.
- * false: out is shorter than RAKHVIDE_PAGE; it is as it was, and *written is 0. */
+ * false: out is shorter than RAKHVIDE_PAGE; it is as it was, and 0 is written to *written. */
 bool rakhvide_page(const uint8_t *book, size_t book_length, const uint8_t *events, size_t events_length,
                    uint8_t *out, size_t out_length, size_t *written);
 

@@ -41,10 +41,13 @@ module _ (book events : List ℕ) where
       ∙ sym (accepted-page ok)
 
   module _ (d : List ℕ) where
-    -- the page is the front of a buffer that is long enough
-    pub page-front : longest ≤ length d → take (length (pageOf book events)) (bufferOf book events d) ≡ pageOf book events
+    page-front : longest ≤ length d → take (length (pageOf book events)) (bufferOf book events d) ≡ pageOf book events
     unfolding bufferOf over
     page-front h = rw (le-ltb (length d) longest h) (take-append-seam (pageOf book events) (drop (0 + length (pageOf book events)) d))
+
+    -- the page is the front of a buffer that is long enough
+    pub page-part : longest ≤ length d → (k : ℕ) (x : List ℕ) → k ≡ length (pageOf book events) → x ≡ bufferOf book events d → take k x ≡ pageOf book events
+    page-part h k x n q = rw (n, q) (page-front h)
 
     pub printed-length : longest ≤ length d → printedOf book events d .length ≡ length (pageOf book events)
     unfolding printedOf
@@ -62,4 +65,4 @@ module _ (book events : List ℕ) where
     front-reported r x p q ok w =
         let h = written-long (ap (λ (y : Printed). y .written) (sym p) ∙ w) in
         let n = ap (λ (y : Printed). y .length) p ∙ printed-length h in
-        rw (n, q, page-front h) (page-reported ok)
+        rw (page-part h (r .length) x n q) (page-reported ok)

@@ -1,12 +1,10 @@
 -- `page::page_in` meets its contract: in a buffer with room for every page the page is its front. Assumes nothing.
-use Prim.Native.Nat.{_-_}
-use mathlib.Core.Path.{_≡_, ap, _∙_}
+use mathlib.Core.Path.{ap, _∙_}
+use native.Mathlib.Nat.{sub-zero}
 use native.Mathlib.Omega.{arith}
-use lib.ListN.{length}
 use Rattle.page.specs.declared.Printed.{Printed}
-use Rattle.page.specs.Page.{pageOf}
 use Rattle.page.proofs.Pages.{printed-fits}
-use Rattle.page.proofs.Reports.{page-front, printed-length}
+use Rattle.page.proofs.Reports.{page-part, printed-length}
 use borrow.Author.Needs.{needs}
 use Rattle.page.proofs.page_in.Statement.{statement}
 use Rattle.page.proofs.page_in.Tie as tie
@@ -32,9 +30,8 @@ returns c =
     let events = s .args .events .now in
     let out = s .args .out .now in
     let e = c .before .before .before .page .ensures in
-    let n : c .before .before .before .page .result .length - 0 ≡ length (pageOf book events) =
-    omega (arith, ap (λ (p : Printed). p .length) (e .0), printed-length book events out (s .pre)) in
-    rw (n, e .1 .0, page-front book events out (s .pre))
+    let n = ap (λ (p : Printed). p .length) (e .0) ∙ printed-length book events out (s .pre) in
+    page-part book events out (s .pre) _ _ (sub-zero _ ∙ n) (e .1 .0)
 
 pub page-in-spec : {M : Type 1} → statement M
 page-in-spec = tie.close (tie.spec page-requires sub-result part-out-start part-out-end returns)
