@@ -54,8 +54,8 @@ printedOf book events out =
     cond (ltb (length out) longest) (record { written = false; length = 0 })
     (record { written = true; length = length (pageOf book events) })
 
--- what a page of an accepted book is a page of: it tells numbers and a table, and of these demand 3 holds. They are what the run answered and returned
--- (`each`, `answers` and `returned` of `Demand3`), so no other text is such a page.
+-- what a page of an accepted book is a page of: it tells numbers and a table, and of these demand 3 holds. So they are those that the run answered and
+-- returned, and no other text is such a page (`reported-only`, proofs/Reports.antt).
 pub record Reported (book : List ℕ) (events : List (List ℕ)) (text : List ℕ) : Type 0 where
   pub numbers : List ℕ
   pub table : Table
