@@ -65,7 +65,7 @@ further t w =
     let r = drain t w in
     record {
       events = r .events;
-      few = r .few;
+      few = omega (arith, r .few);
       accepted = all-zero t (r .events) (r .accepted);
       only = all-further t (r .events) (r .accepted);
       priced = λ j n.

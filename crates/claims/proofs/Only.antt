@@ -8,7 +8,7 @@ use lib.ListN.{length, take, drop, getD}
 use lib.Seq.{split-at, length-take-le, ext-getD}
 use Rattle.table.specs.declared.Table.{Table}
 use Rattle.opening.specs.Opening.{openOf}
-use Rattle.dispatcher.specs.Step.{answersOf}
+use Rattle.dispatcher.specs.Step.{runOf, answersOf}
 use Rattle.claims.specs.Claims.{Demand3}
 use Rattle.claims.proofs.Runs.{answers-length, answer-at}
 
@@ -29,7 +29,8 @@ module _ (book : List ℕ) (events : List (List ℕ)) (numbers : List ℕ) (tabl
       ∙ ap (λ (es : List (List ℕ)). getD (answersOf t es) (length front) 0) (sym split)
       ∙ ap (λ (k : ℕ). getD (answersOf t events) k 0) n
 
-  pub numbers-only : numbers ≡ answersOf t events
-  numbers-only =
-      ext-getD 0 numbers (answersOf t events) (d .each ∙ sym (answers-length t events))
-      (λ i l. number-at i (omega (arith, d .each)))
+  pub only : (numbers ≡ answersOf t events) × (table ≡ runOf t events)
+  only = (
+    ext-getD 0 numbers (answersOf t events) (d .each ∙ sym (answers-length t events)) (λ i l. number-at i (omega (arith, d .each))),
+    d .returned,
+  )

@@ -1,7 +1,7 @@
--- Runs: a list of events after another, and what `Answered` says of an event wherever it stands in its list.
+-- Runs: their numbers, what `Answered` says of an event wherever it stands in its list, and one more event at the front.
 -- Assumes nothing.
 use Prim.Native.Nat.{ℕ, suc, _+_}
-use mathlib.Core.Path.{_≡_, refl, ap, _∙_}
+use mathlib.Core.Path.{_≡_, refl, sym, ap, _∙_}
 use mathlib.Core.Logic.{_≢_}
 use mathlib.Core.Bool.{Bool, true, false, cond}
 use mathlib.Core.List.{List, [], _∷_, _++_}
@@ -48,12 +48,14 @@ step-valid : (t : Table) (e : List ℕ) → Valid t → stepOf t e .number ≢ 9
 step-valid t e v = rw (step-answer t e (valid-passes t v)) (answer-9 t e)
 
 pub answered : (t : Table) → Valid t → (front : List (List ℕ)) (e : List ℕ) (back : List (List ℕ)) → Answered t front e back (getD (answersOf t (front ++ e ∷ back)) (length front) 0)
-answered t v front e back = record {
-  number = answer-at t front e back;
-  next = run-append t front (e ∷ back) ∙ run-more (runOf t front) e back;
-  refused = step-refused (runOf t front) e;
-  valid = step-valid (runOf t front) e (valid-run t front v);
-}
+answered t v front e back =
+    let n = answer-at t front e back in
+    record {
+      number = n;
+      next = run-append t front (e ∷ back) ∙ run-more (runOf t front) e back;
+      refused = λ h. step-refused (runOf t front) e (λ z. h (n ∙ z));
+      valid = λ z. step-valid (runOf t front) e (valid-run t front v) (sym n ∙ z);
+    }
 
 -- ---- one more event at the front
 

@@ -30,9 +30,9 @@ pub record Answered (fresh : Table) (front : List (List ℕ)) (e : List ℕ) (ba
   -- the next event is given the table that it returned
   pub next : runOf fresh (front ++ e ∷ back) ≡ runOf (stepOf (runOf fresh front) e .table) back
   -- a refusal changes nothing
-  pub refused : stepOf (runOf fresh front) e .number ≢ 0 → stepOf (runOf fresh front) e .table ≡ runOf fresh front
+  pub refused : n ≢ 0 → stepOf (runOf fresh front) e .table ≡ runOf fresh front
   -- and no table of a run is refused 9
-  pub valid : stepOf (runOf fresh front) e .number ≢ 9
+  pub valid : n ≢ 9
 
 -- "The table returned after the list shows exactly this, job by job": v is job j in the table after the events
 pub record Shown (book : List ℕ) (fresh : Table) (events : List (List ℕ)) (j : ℕ) (v : Job) : Type 0 where
@@ -64,7 +64,7 @@ pub record Further (t : Table) : Type 0 where
   -- every bond that is admitted in t is priced after them
   pub priced : (j : ℕ) → jobAt t j .state ≢ 0 → jobAt (runOf t events) j .state ≡ 2
 
--- Demand 3 of a book, a list of events, the numbers that they were answered and the table after them, by its sentences in their order
+-- Demand 3 of a book, a list of events, the numbers that they were answered and the table after them, by its sentences
 pub record Demand3 (book : List ℕ) (events : List (List ℕ)) (numbers : List ℕ) (table : Table) : Type 0 where
   -- "each event is answered as document 01 says": a number for each, and every event e of the list, with the events before and after it
   pub each : length numbers ≡ length events

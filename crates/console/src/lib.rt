@@ -2,10 +2,11 @@
 // said on standard error, since a program has no exit status here.
 use libc::STDERR_FILENO;
 use libc::STDOUT_FILENO;
+ghost use mathlib.Core.Path.{_≡_};
 ghost use Prim.Native.Nat.{_≤_};
 ghost use lib.ListN.{length};
 ghost use Rattle.io.specs.Counts.{Counts};
-ghost use Rattle.page.specs.Page.{longest};
+ghost use Rattle.page.specs.Page.{pageOf, longest};
 
 // Says on standard error why a file counts as empty.
 fn complain(name: &[u8], why: &[u8]) {
@@ -39,14 +40,21 @@ fn load(name: &[u8], buf: &mut [u8]) -> usize
     0
 }
 
+// Prints a text on standard output. It asks that the text is the page of a book and a list of events, which are there for this alone.
+fn print(text: &[u8], book: &[u8], events: &[u8])
+    requires { ⌜ now text ≡ pageOf (now book) (now events) ⌝ }
+{
+    if !io::write_all(STDOUT_FILENO, text) {
+        io::write_all(STDERR_FILENO, b"the page could not be written whole\n");
+    }
+}
+
 // Prints the page of a book and a list of events, by way of the buffer.
 fn print_from(book: &[u8], events: &[u8], out: &mut [u8])
     requires { ⌜ longest ≤ length (now out) ⌝ }
 {
     let text = page::page_in(book, events, out);
-    if !io::write_all(STDOUT_FILENO, text) {
-        io::write_all(STDERR_FILENO, b"the page could not be written whole\n");
-    }
+    print(text, book, events);
 }
 
 // Prints the page of book.bin and events.bin in the folder where the program is run.

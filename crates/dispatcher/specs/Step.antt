@@ -1,4 +1,5 @@
--- Document 01, "Where each refusal is checked": one event on a table, whatever the table and the bytes of the event, and a list of events. Definitions only.
+-- Document 01, "Where each refusal is checked": one event on a table, whatever the table and the bytes of the event; a list of
+-- events, with its table and its numbers; and which events are further ones. Definitions only.
 use mathlib.Core.Bool.{Bool, not, cond, _&&_, _||_}
 use mathlib.Core.List.{List, [], _∷_}
 use Prim.Native.Nat.{ℕ}

@@ -11,14 +11,13 @@ use lib.Seq.{take-append-seam}
 use Rattle.lists.proofs.Cases.{byBool}
 use Rattle.text.specs.Text.{over}
 use Rattle.book.specs.Book.{bookVerdict}
-use Rattle.table.specs.declared.Table.{Table}
 use Rattle.opening.specs.Opening.{openOf}
 use Rattle.opening.proofs.Shown.{opened-number}
 use Rattle.dispatcher.specs.Step.{runOf, answersOf}
 use Rattle.claims.proofs.Demand3.{demand-3}
-use Rattle.claims.proofs.Only.{numbers-only}
+use Rattle.claims.proofs.Only.{only}
 use Rattle.page.specs.declared.Printed.{Printed}
-use Rattle.page.specs.Page.{eventsOf, runText, textFrom, pageOf, longest, bufferOf, printedOf, Reported}
+use Rattle.page.specs.Page.{eventsOf, textFrom, pageOf, longest, bufferOf, printedOf, Reported}
 
 module _ (book events : List ℕ) where
   accepted-page : bookVerdict book ≡ 0 → pageOf book events ≡ textFrom book (openOf book .table) (eventsOf events)
@@ -35,10 +34,8 @@ module _ (book events : List ℕ) where
 
   pub reported-only : bookVerdict book ≡ 0 → (text : List ℕ) → Reported book (eventsOf events) text → text ≡ pageOf book events
   reported-only ok text r =
-      r .told
-      ∙ ap (λ (n : List ℕ). runText book n (r .table)) (numbers-only book (eventsOf events) (r .numbers) (r .table) (r .demand))
-      ∙ ap (λ (t : Table). runText book (answersOf (openOf book .table) (eventsOf events)) t) (r .demand .returned)
-      ∙ sym (accepted-page ok)
+      let o = only book (eventsOf events) (r .numbers) (r .table) (r .demand) in
+      r .told ∙ rw (o .0, o .1) (sym (accepted-page ok))
 
   module _ (d : List ℕ) where
     page-front : longest ≤ length d → take (length (pageOf book events)) (bufferOf book events d) ≡ pageOf book events

@@ -54,8 +54,8 @@ printedOf book events out =
     cond (ltb (length out) longest) (record { written = false; length = 0 })
     (record { written = true; length = length (pageOf book events) })
 
--- what a page of an accepted book is a page of: it tells numbers and a table, and of these demand 3 holds. So they are those that the run answered and
--- returned, and no other text is such a page (`reported-only`, proofs/Reports.antt).
+-- what is promised of the text for an accepted book: it tells numbers and a table of which demand 3 holds. These are then the ones that the run answered
+-- and returned, and no text but the page tells them (`reported-only`, proofs/Reports.antt)
 pub record Reported (book : List ℕ) (events : List (List ℕ)) (text : List ℕ) : Type 0 where
   pub numbers : List ℕ
   pub table : Table

@@ -39,7 +39,7 @@ fn put_entries(book: &[u8], t: Table, out: &mut [u8], at: usize) -> usize
 // The page of an accepted book, whose fresh table is t.
 fn put_run(book: &[u8], t: Table, events: &[u8], out: &mut [u8]) -> usize
     requires { ⌜ tableOk t ≡ true ⌝ }
-    requires { ⌜ (length (now events) ≤ 60000) × (463072 ≤ length (now out)) ⌝ }
+    requires { ⌜ (length (now events) ≤ 60000) × (longest ≤ length (now out)) ⌝ }
     ensures { λ r. ⌜ Written (now (out .entry)) 0 (textFrom (now (book .entry)) t (eventsIn (now (events .entry)))) (now (out .exit)) r ⌝ }
 {
     let ran = run::run(t, events, out);
