@@ -8,7 +8,7 @@ ghost use lib.ListN.{length};
 ghost use Rattle.io.specs.Counts.{Counts};
 ghost use Rattle.page.specs.Page.{pageOf, longest};
 
-// Says on standard error why a file counts as empty.
+// Says on standard error what was not read of a file.
 fn complain(name: &[u8], why: &[u8]) {
     io::write_all(STDERR_FILENO, name);
     io::write_all(STDERR_FILENO, why);
@@ -21,7 +21,7 @@ fn ended(fd: i32) -> bool {
 }
 
 // Reads the file into buf, as far as there is room, and answers how many bytes it read. A file that cannot be opened counts as empty, and so does one that
-// cannot be read to its end: no part of a list of events passes for the whole.
+// cannot be read so far: no part of a list of events passes for the whole.
 fn load(name: &[u8], buf: &mut [u8]) -> usize
     ensures { λ r. ⌜ Counts r (now (buf .exit)) ⌝ }
 {
@@ -31,9 +31,13 @@ fn load(name: &[u8], buf: &mut [u8]) -> usize
         return 0;
     }
     let n = io::read_full(fd, buf);
-    let whole = n == buf.len() || ended(fd);
+    let whole = ended(fd);
     libc::close(fd);
     if whole {
+        return n;
+    }
+    if n == buf.len() {
+        complain(name, b": the rest is not read\n");
         return n;
     }
     complain(name, b": cannot be read, counts as empty\n");
