@@ -7,7 +7,7 @@
  *   - a buffer that is written (no `const`) overlaps no other argument;
  *   - no other thread writes to a buffer during the call.
  * No function keeps a pointer, allocates, or has state of its own: calls on different buffers may run side by side.
- * A number of 0 is accepted. Any other is a refusal, and then nothing that the call was given is written to. rakhvide_page answers no number: see there.
+ * A number of 0 is accepted. Any other is a refusal, and then every buffer, and *bits, holds what it held. rakhvide_page answers no number: see there.
  * A call needs up to 64 KiB of stack. */
 #ifndef RAKHVIDE_H
 #define RAKHVIDE_H
@@ -32,7 +32,7 @@ uint8_t rakhvide_identifier(const uint8_t *identifier, size_t length);
 /* A book: 0, or the number of its refusal, 1 to 7. */
 uint8_t rakhvide_book(const uint8_t *book, size_t length);
 
-/* A term of the book, 19 bytes: 0, and *bits are the 64 bits of its bond's price; or 7, and *bits stay. */
+/* A term of the book, 19 bytes: 0, and *bits are the 64 bits of its bond's price; or 7, and *bits stay (they are read, and written back). */
 uint8_t rakhvide_term(const uint8_t *term, size_t length, uint64_t *bits);
 
 /* The 64 bits of a price, of any arguments: half-years, annual coupon per 100 of face, annual yield as a fraction.

@@ -164,7 +164,7 @@ pub fn identifier<'a>(s: &'a [u8], i: usize, number: &mut u8) -> &'a [u8]
         *number = v;
         return empty_part(s);
     }
-    let n = entries(s) as usize;
+    let n = endian::u16_at(s, 2) as usize;
     if n <= i {
         *number = 11;
         return empty_part(s);

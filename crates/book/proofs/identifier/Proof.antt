@@ -2,10 +2,11 @@
 use Prim.Native.Nat.{_≤_, _<_}
 use mathlib.Core.Path.{_≡_, sym, _∙_}
 use mathlib.Core.Logic.{_≢_}
+use native.Mathlib.Omega.{arith}
 use denote.Ref.{now}
 use Rattle.book.specs.Book.{bookVerdict}
 use Rattle.book.specs.Parts.{entryCount}
-use Rattle.book.proofs.Accepted.{identifier-whole, identifier-below, identifier-past, identifier-refused, number-refused, number-past, number-below}
+use Rattle.book.proofs.Accepted.{accepted, accepted-size, identifier-whole, identifier-below, identifier-past, identifier-refused, number-refused, number-past, number-below}
 use borrow.Author.Needs.{needs}
 use Rattle.book.proofs.identifier.Statement.{statement}
 use Rattle.book.proofs.identifier.Tie as tie
@@ -13,11 +14,18 @@ use Rattle.book.proofs.identifier.Tie as tie
 refused : (c : tie.Then1) → bookVerdict (now (c .before .before .before .args .s)) ≢ 0
 refused c = λ e. c .if1 .taken (c .before .verdict .ensures ∙ e)
 
+zero : (c : tie.Else1) → bookVerdict (now (c .before .before .before .args .s)) ≡ 0
+zero c = sym (c .before .verdict .ensures) ∙ c .if1 .left
+
+-- what was read is the entry count
+count : (c : tie.After-u16-at) → c .u16-at .result ≡ entryCount (now (c .before .before .before .before .args .s))
+count c = c .u16-at .ensures ∙ sym (accepted-size _ _ (zero (c .before)))
+
 past : (c : tie.Then2) → entryCount (now (c .before .before .before .before .before .args .s)) ≤ c .before .before .before .before .before .args .i
-past c = rw (c .before .entries .ensures) at (c .if2 .taken)
+past c = rw (count (c .before)) at (c .if2 .taken)
 
 below : (c : tie.Else2) → c .before .before .before .before .before .args .i < entryCount (now (c .before .before .before .before .before .args .s))
-below c = rw (c .before .entries .ensures) at (c .if2 .left)
+below c = rw (count (c .before)) at (c .if2 .left)
 
 verdict-requires : tie.Need-verdict-requires
 verdict-requires c κs = search needs
@@ -26,10 +34,11 @@ empty-part-requires : tie.Need-empty-part-requires
 empty-part-requires c κs = search needs
 
 returns : tie.Need-returns
-returns c = (c .empty-part .ensures ∙ identifier-refused _ _ (refused (c .before)), c .before .before .verdict .ensures ∙ number-refused _ _ (refused (c .before)))
+returns c =
+    (c .empty-part .ensures ∙ identifier-refused _ _ (refused (c .before)), c .before .before .verdict .ensures ∙ number-refused _ _ (refused (c .before)))
 
-entries-requires : tie.Need-entries-requires
-entries-requires c κs = search needs
+u16-at-requires : tie.Need-u16-at-requires
+u16-at-requires c κs = let a = accepted _ (zero c) in omega (arith, a .four)
 
 cast-n : tie.Need-cast-n
 cast-n c = search needs
@@ -39,8 +48,7 @@ empty-part-requires-2 c κs = search needs
 
 returns-2 : tie.Need-returns-2
 returns-2 c =
-    let e = sym (c .before .before .before .before .verdict .ensures) ∙ c .before .before .before .if1 .left in
-    (c .empty-part2 .ensures ∙ identifier-past _ _ (past (c .before)), number-past _ _ e (past (c .before)))
+    (c .empty-part2 .ensures ∙ identifier-past _ _ (past (c .before)), number-past _ _ (zero (c .before .before .before)) (past (c .before)))
 
 identifier-at-requires : tie.Need-identifier-at-requires
 identifier-at-requires c κs = identifier-whole _ _ (below c)
@@ -55,7 +63,7 @@ identifier-spec =
     verdict-requires
     empty-part-requires
     returns
-    entries-requires
+    u16-at-requires
     cast-n
     empty-part-requires-2
     returns-2
