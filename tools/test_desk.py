@@ -971,6 +971,14 @@ class Bench(Folder):
         self.assertEqual((book_bytes.number_of(files.book), len(files.book), len(files.events)), (0, 4 + 31 * 64, 60000))
 
 
+class Compare(Folder):
+    def test_a_program_that_is_not_built(self):
+        (self.folder / "compare").mkdir()
+        script = shutil.copy(ROOT / "compare" / "program", self.folder / "compare")
+        done = subprocess.run([script], stdout=subprocess.PIPE, stderr=subprocess.PIPE, timeout=60, check=False)
+        self.assertEqual((done.returncode, done.stdout, done.stderr), (2, b"", b"compare/program: run rt check rakhvide first\n"))
+
+
 class Damage(Folder):
     def test_help(self):
         """It is the whole docstring: formats, numbers, exit statuses."""
