@@ -327,15 +327,15 @@ def whole_number(text: str) -> int:
 
 
 def main() -> int:
-    parser = desk.parser(__doc__)
+    parser = desk.Parser(description=__doc__)
     commands = parser.add_subparsers(required=True, metavar="make|show")
-    making = commands.add_parser("make", help="make book.bin from a CSV file", description=parser.description, formatter_class=parser.formatter_class)
+    making = commands.add_parser("make", help="make book.bin from a CSV file", description=parser.description)
     making.add_argument("csv", metavar="BOOK.csv", type=desk.stated_path)
     making.add_argument("book", metavar="book.bin", type=desk.stated_path)
     making.add_argument("--machines", type=whole_number, metavar="N", help="machine count, 2 to 16")
     making.add_argument("--anyway", action="store_true", help="write a faulty book too")
     making.set_defaults(command=command_make)
-    showing = commands.add_parser("show", help="print a book as CSV", description=parser.description, formatter_class=parser.formatter_class)
+    showing = commands.add_parser("show", help="print a book as CSV", description=parser.description)
     showing.add_argument("book", metavar="book.bin", type=desk.stated_path)
     showing.set_defaults(command=command_show)
     args = parser.parse_args()

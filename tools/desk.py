@@ -113,7 +113,7 @@ def stat_of(path: Path) -> os.stat_result | None:
 
 
 def output_of(found: os.stat_result | None) -> int | None:
-    """The descriptor of standard output or error where that is this file, as /dev/stdout is. Opening it again would empty the file."""
+    """The descriptor of standard output or error where that is this file, as /dev/stdout is. To open it again would empty it."""
     for descriptor in (1, 2):
         with contextlib.suppress(OSError):  # it is closed
             if found is not None and os.path.samestat(found, os.fstat(descriptor)):
@@ -218,14 +218,14 @@ def strange(text: str) -> str:
 
 
 class Parser(argparse.ArgumentParser):
+    """Of a tool or of one of its commands. Its description, the docstring, keeps its lines."""
+
+    def __init__(self, **options: typing.Any) -> None:
+        super().__init__(formatter_class=argparse.RawDescriptionHelpFormatter, **options)
+
     def print_help(self, file: typing.Any = None) -> None:
         """argparse's own ends well where the output takes nothing."""
         say(self.format_help())
-
-
-def parser(doc: str | None) -> Parser:
-    """A tool's parser, whose help is the docstring."""
-    return Parser(description=(doc or "").strip(), formatter_class=argparse.RawDescriptionHelpFormatter)
 
 
 def stated_path(text: str) -> str:

@@ -158,13 +158,13 @@ def command_show(args: argparse.Namespace) -> None:
 
 
 def main() -> int:
-    parser = desk.parser(__doc__)
+    parser = desk.Parser(description=__doc__)
     commands = parser.add_subparsers(required=True, metavar="make|show")
-    making = commands.add_parser("make", help="make events.bin from a list", description=parser.description, formatter_class=parser.formatter_class)
+    making = commands.add_parser("make", help="make events.bin from a list", description=parser.description)
     making.add_argument("list", metavar="LIST.txt", type=desk.stated_path)
     making.add_argument("events", metavar="events.bin", type=desk.stated_path)
     making.set_defaults(command=command_make)
-    showing = commands.add_parser("show", help="print events.bin as a list", description=parser.description, formatter_class=parser.formatter_class)
+    showing = commands.add_parser("show", help="print events.bin as a list", description=parser.description)
     showing.add_argument("events", metavar="events.bin", type=desk.stated_path)
     showing.set_defaults(command=command_show)
     args = parser.parse_args()

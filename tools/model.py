@@ -346,7 +346,7 @@ def page(book: bytes, events: bytes, decimal: bool = False) -> str:
 
 
 def main() -> int:
-    parser = desk.parser(__doc__)
+    parser = desk.Parser(description=__doc__)
     parser.add_argument("folder", metavar="FOLDER", type=desk.stated_path)
     parser.add_argument("--decimal", action="store_true", help="print prices as decimal numbers too")
     args = parser.parse_args()

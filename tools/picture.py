@@ -423,7 +423,7 @@ def warn_of_size(root: Element) -> None:
 
 
 def main() -> int:
-    parser = desk.parser(__doc__)
+    parser = desk.Parser(description=__doc__)
     parser.add_argument("folder", metavar="FOLDER", type=desk.stated_path)
     parser.add_argument("svg", metavar="out.svg", type=desk.stated_path)
     parser.add_argument("--title", help="the title line")

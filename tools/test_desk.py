@@ -219,7 +219,7 @@ class Books(Folder):
             self.assertEqual(book.make(comment + "\n" + HEADER)[0], 3, comment)
         self.assertEqual(book.make("# machines 3\n" + HEADER + "# Machines: 3\n")[0], 3)
         self.assertEqual(book.make(" # machines 3\n\t# a comment\n" + HEADER)[0], 3)
-        self.assertEqual(book.make("# the machines\n# a machine\n# machinery of 2024\n# close of 2024\n" + HEADER + "ZZ0000000016,fixed,2,4,0\n")[0], 4)
+        self.assertEqual(book.make("# the machines\n# a machine\n# machinery of 2024\n# close of 2024\n" + HEADER)[0], 4)
 
     def test_comments_that_should_state_the_machine_count(self):
         for comment in ("# machines three", "# machines -1", "# machines 3 at the close", "# machines", "#Machines3", "# machines 3.0",
@@ -281,7 +281,8 @@ class Books(Folder):
                 ("fixed,2,4,1.0000000000000002", "yield"), ("fixed,2,4,nan", "yield"), ("zero,2,1,0", "coupon"), ("zero,2,-0.0,0", "coupon")):
             self.assert_refused(HEADER + GOOD + "ZZ0000000024," + row + "\n", f"row 3, column {column}", "refused 7")
         for ytm, fraction in (("4.25", "0.0425"), ("4.123456789", "0.04123456789"), ("1e1", "0.1"), ("4." + 50 * "1", "0.04" + 50 * "1")):
-            self.assert_refused(HEADER + f"ZZ0000000016,fixed,2,4, {ytm}\n", f": {ytm} is outside 0 to 1; {ytm} percent is written {fraction} (refused 7)")
+            words = f"yield: {ytm} is outside 0 to 1; {ytm} percent is written {fraction} (refused 7)"
+            self.assert_refused(HEADER + f"ZZ0000000016,fixed,2,4, {ytm}\n", words)
         faulty = book_bytes.book_of(2, entries_of([(book_bytes.FIXED, 2, 0, 4.0, 4.123456789)]))
         self.assert_message(tool("book.py", "show", self.file("f.bin", faulty)), "4.123456789 percent is written 0.04123456789 (refused 7)")
 
@@ -494,7 +495,8 @@ class Events(Folder):
                 ("admit \uff10", "character 7 is fullwidth digit zero (U+FF10)"), ("admit 0\u200b", "character 8 is zero width space (U+200B)"),
                 ("raw 1 2 3 4", "raw BYTE BYTE BYTE"), ("raw x", "'x' is not a byte"), ("RAW 1 2 3", "did you mean raw 1 2 3?"),
                 ("ADMIT 256", "words are lower case, and '256' is above 255"), ("steal 256 FROM 0", "words are lower case, and '256' is above 255"),
-                ("RAW 1 2", "words are lower case; did you mean raw 1 2?"), ("STEAL 1", "words are lower case, and it is written steal MACHINE from MACHINE"),
+                ("RAW 1 2", "words are lower case; did you mean raw 1 2?"),
+                ("STEAL 1", "words are lower case, and it is written steal MACHINE from MACHINE"),
                 ("stael 1 from 0", "'stael' is none of admit, steal")):
             with self.assertRaises(desk.Stop) as found:
                 events.make(line)
@@ -1002,7 +1004,8 @@ class Damage(Folder):
         (self.folder / "book.bin").write_bytes(book.make(LISTING_BOOK))
         self.assert_lines(tool("picture.py", self.folder, none / "p.svg"), "/", f"{none / 'p.svg'} cannot be written: there is no folder {none}")
         for command in (["book.py", "make", "", none], ["book.py", "make", good, ""], ["book.py", "show", ""], ["events.py", "make", "", none],
-                        ["events.py", "make", lines, ""], ["events.py", "show", ""], ["model.py", ""], ["picture.py", "", none], ["picture.py", none, ""]):
+                        ["events.py", "make", lines, ""], ["events.py", "show", ""], ["model.py", ""], ["picture.py", "", none],
+                        ["picture.py", none, ""]):
             done = tool(*command)
             self.assert_message(done, "the path is empty")
             self.assertEqual(done.returncode, 2)
@@ -1066,9 +1069,9 @@ class Damage(Folder):
         """While a tool reads."""
         pipe = self.folder / "pipe"
         os.mkfifo(pipe)
+        how = {"stdout": subprocess.PIPE, "stderr": subprocess.PIPE, "preexec_fn": lambda: signal.signal(signal.SIGINT, signal.SIG_DFL)}
         for name in ("book.py", "events.py"):
-            command = [sys.executable, str(ROOT / "tools" / name), "show", pipe]
-            with subprocess.Popen(command, stdout=subprocess.PIPE, stderr=subprocess.PIPE, preexec_fn=lambda: signal.signal(signal.SIGINT, signal.SIG_DFL)) as run:
+            with subprocess.Popen([sys.executable, ROOT / "tools" / name, "show", pipe], **how) as run:
                 with open(pipe, "wb"):  # once the tool has opened it too
                     run.send_signal(signal.SIGINT)
                     self.assertEqual((*run.communicate(timeout=60), run.returncode), (b"", b"", 130))
