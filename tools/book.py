@@ -8,7 +8,8 @@ It needs Python 3.10 or later, and its standard library only.
 
 The CSV has the header identifier,kind,periods,coupon,yield and then a row for each bond. The kind is zero or fixed, the
 periods are half-years, the coupon is a year's per 100 of face (empty or 0 for a zero), the yield is a year's as a fraction.
-Rates are decimal texts, read as Python's float() reads them, but without its underscores and digits of other scripts.
+Rates are decimal texts, read as Python's float() reads them, but without its underscores and digits of other scripts. A text of
+more than 4,000,000 bytes is not read.
 
 A row whose first mark is # is a comment; the comment "# machines 4" states the machine count. Small and capital letters, a colon
 or an equals sign after the word, and the number in the next cell are read too ("#Machines: 4", "# machines,4"). Any other
@@ -28,7 +29,8 @@ show prints the CSV of a book, from which make makes the same bytes again where 
 bytes that a CSV does not hold, as a spare byte that is not 0.
 
 The exit status is 0 where the book is written or shown, by --anyway a faulty one too; 1 where a file cannot be read or
-written, or where all that is wrong is text without a meaning; 2 for a wrong command; 3 where the book is refused or would be.
+written, or where all that is wrong is text without a meaning; 2 for a wrong command; 3 where the book is refused or would be;
+130 where the tool is interrupted.
 """
 import argparse
 import collections.abc

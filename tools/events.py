@@ -20,10 +20,11 @@ A line is an event; what follows a # is a comment, and empty lines are skipped:
 Words are lower case and a number is 0 to 255; whether the dispatcher accepts the event is for the program to say, by a number
 that docs/PROTOCOL.md, "The numbers", has the meaning of. make writes nothing where a line is no event, and names such lines,
 the first 20 of them. show prints any events.bin so that make makes the same bytes of it, with event k on line k. The program
-reads no more than the first 20,000 events; of a longer list, and of one without an event, the tool warns.
+reads no more than the first 20,000 events; of a longer list, and of one without an event, the tool warns. A file of more than
+4,000,000 bytes it does not read.
 
 The exit status is 0 where the list is written or shown, 1 where a file cannot be read or written or a line is no event, 2 for
-a wrong command.
+a wrong command, 130 where the tool is interrupted.
 """
 import argparse
 import re

@@ -14,7 +14,8 @@ A file that cannot be read counts as empty, as it does in the program, and is na
 20,000 events are read; of a longer one the tool warns.
 
 The exit status is 0 where the page is that of an accepted book and a list of events; 1 where one of the two files cannot be
-read, though the page is printed, or where the page cannot be written; 2 for a wrong command; 3 where the book is refused.
+read, though the page is printed, or where the page cannot be written; 2 for a wrong command; 3 where the book is refused;
+130 where the tool is interrupted.
 """
 import desk  # first: it stops an older Python
 

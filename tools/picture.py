@@ -16,7 +16,7 @@ is in docs/PROTOCOL.md, "The numbers".
 
 The exit status is 0 where the picture is that of an accepted book and a list of events; 1 where one of the two files cannot be
 read (of a book without events.bin the picture is written all the same), or the picture cannot be written, or the title is
-refused; 2 for a wrong command; 3 where the book is refused.
+refused; 2 for a wrong command; 3 where the book is refused; 130 where the tool is interrupted.
 """
 import collections.abc
 from xml.etree.ElementTree import Element

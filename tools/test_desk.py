@@ -987,7 +987,7 @@ class Damage(Folder):
         for command in (["book.py"], ["book.py", "make"], ["book.py", "show"], ["events.py"], ["events.py", "make"], ["events.py", "show"],
                         ["model.py"], ["picture.py"]):
             shown = " ".join(tool(*command, "--help").stdout.decode().split())
-            self.assertRegex(shown, "The exit status is 0 where .* 1 where .* 2 for a wrong command")
+            self.assertRegex(shown, "The exit status is 0 where .* 1 where .* 2 for a wrong command.* 130 where the tool is interrupted")
             self.assertEqual("3 where the book is refused" in shown, command[0] != "events.py")
             self.assertIn('docs/PROTOCOL.md, "The numbers"', shown)
             self.assertIn({"book.py": book, "events.py": events, "model.py": model, "picture.py": picture}[command[0]].__doc__.strip(),
