@@ -69,10 +69,9 @@ def read_csv(text: str) -> Rows:
 
 
 def without_end(row: list[str]) -> list[str]:
-    """Without the empty cells that go beyond the columns."""
-    while len(row) > len(COLUMNS) and not row[-1].strip():
-        row = row[:-1]
-    return row
+    """Without the empty cells after the last other one, as far as they go beyond the columns."""
+    last = max(place for place, cell in enumerate(row, 1) if cell.strip())
+    return row[:max(last, len(COLUMNS))]
 
 
 def stated_machines(rows: Rows) -> tuple[int | None, list[Fault]]:
@@ -162,8 +161,8 @@ class Row:
             return accepted
 
     def read_rate(self, column: str) -> float:
-        text = self.cells[column].strip()
-        return self.read(column, lambda text: float(plain(text)), f"is not a number{rate_hint(column, text)}", 0.0)
+        hint = rate_hint(column, self.cells[column].strip())
+        return self.read(column, lambda text: float(plain(text)), f"is not a number{hint}", 0.0)
 
     def stated(self) -> books.Stated:
         return books.Stated(self.number, self.entry, {column: cell.strip() for column, cell in self.cells.items()})
