@@ -251,7 +251,8 @@ class Books(Folder):
         for text in ("\ufeff" + HEADER + GOOD + SECOND, (HEADER + GOOD + SECOND).replace("\n", "\r\n"), HEADER + GOOD + SECOND + ",,,,\n",
                      (HEADER + GOOD + SECOND).replace("\n", ",, ,\n"),
                      HEADER + "\n" + GOOD + SECOND.replace(",,", ",0,"), HEADER + '"ZZ0000000016","fixed","2","4.0","0.0"\n' + SECOND):
-            self.assertEqual(self.make(text)[1], plain)
+            done, written = self.make(text)
+            self.assertEqual((done.returncode, written), (0, plain), done.stderr)
 
     def test_refused_2(self):
         rows = "".join(f"{name.decode()},zero,1,,0\n" for name in names(65))
