@@ -4,38 +4,40 @@
     python3 tools/book.py make BOOK.csv book.bin [--machines N] [--anyway]
     python3 tools/book.py show book.bin
 
-It needs Python's standard library only.
+It needs Python 3.10 or later, and its standard library only.
 
 The CSV has the header identifier,kind,periods,coupon,yield and then a row for each bond. The kind is zero or fixed, the
 periods are half-years, the coupon is a year's per 100 of face (empty or 0 for a zero), the yield is a year's as a fraction.
-Rates are decimal texts, read as Python's float() reads them, but without its underscores and digits of other scripts.
+Rates are decimal texts, read as Python's float() reads them, but without its underscores and digits of other scripts. A text of
+more than 4,000,000 bytes is not read.
 
-A row that begins with # is a comment; the comment "# machines 4" states the machine count. Small and capital letters, a colon
+A row whose first mark is # is a comment; the comment "# machines 4" states the machine count. Small and capital letters, a colon
 or an equals sign after the word, and the number in the next cell are read too ("#Machines: 4", "# machines,4"). Any other
-comment that begins with the word stops the tool, and so do two that state different counts. --machines goes before what the
-comment states; where neither states a count it is 4, and make says so.
+comment that begins with the word, or has the word machine or machines and a digit, stops the tool, and so do two that state
+different counts. --machines goes before what the comment states; where neither states a count it is 4, and make says so.
 
 make writes nothing where the book would be refused, and names the faulty cells, from the first row to the last: rows are
-counted as a spreadsheet counts them, the header among them, and the number is that of document 01, "Where each refusal is
-checked". A cell without a meaning, as a kind that is no word of the list, has no number. Of more than 20 faults the first 20
-are named; of more than 64 bonds none is looked at. --anyway writes the faulty book all the same, as far as it has a place for
-what the cells say: a kind is then a number from 0 to 255 too, and an identifier is filled with spaces or cut to 12 bytes.
+counted as a spreadsheet counts them, the header among them, and docs/PROTOCOL.md, "The numbers", has what a number means. A
+cell without a meaning, as a kind that is no word of the list, has no number. Of more than 20 faults the first 20 are named; of
+more than 64 bonds none is looked at. --anyway writes the faulty book all the same, as far as it has a place for what the cells
+say: a kind is then a number from 0 to 255 too, and an identifier is filled with spaces or cut to 12 bytes.
 
 A rate that the rules accept may still be in the other unit. make writes the book and warns of a coupon above 0 and below 0.25,
-which may be meant as a fraction, and of a yield above 0.5, which may be meant in percent.
+which may be meant as a fraction, and of a yield above 0.5, which may be meant in percent. It warns of a book without bonds too.
 
 show prints the CSV of a book, from which make makes the same bytes again where the book is accepted. A refused book may have
 bytes that a CSV does not hold, as a spare byte that is not 0.
 
 The exit status is 0 where the book is written or shown, by --anyway a faulty one too; 1 where a file cannot be read or
-written, or where all that is wrong is text without a meaning; 2 for a wrong command; 3 where the book is refused or would be.
+written, or where all that is wrong is text without a meaning; 2 for a wrong command; 3 where the book is refused or would be;
+130 where the tool is interrupted.
 """
 import argparse
 import collections.abc
 import csv
+import decimal
 import io
 import re
-import struct
 import typing
 
 import book_bytes as books
@@ -47,6 +49,7 @@ KINDS = {"zero": books.ZERO, "fixed": books.FIXED}
 MACHINES = 4  # where nothing else is stated
 LEAST_COUPON, MOST_YIELD = 0.25, 0.5  # beyond which a rate may be in the other unit
 OTHER_MARKS = {";": "semicolons", "\t": "tabs"}  # which part the cells of other files
+POINT = "decimals are written with a point"
 
 Rows = list[tuple[int, list[str]]]  # each with its number: a spreadsheet's, from 1
 T = typing.TypeVar("T")
@@ -62,29 +65,45 @@ def read_csv(text: str) -> Rows:
         rows = list(enumerate(reader, 1))
     except csv.Error as fault:
         raise desk.Stop(f"not a CSV file: line {reader.line_num}: {fault}") from None
-    return [(number, row) for number, row in rows if any(cell.strip() for cell in row)]
+    return [(number, without_end(row)) for number, row in rows if any(cell.strip() for cell in row)]
+
+
+def without_end(row: list[str]) -> list[str]:
+    """Without the empty cells after the last other one, as far as they go beyond the columns."""
+    last = max(place for place, cell in enumerate(row, 1) if cell.strip())
+    return row[:max(last, len(COLUMNS))]
 
 
 def stated_machines(rows: Rows) -> tuple[int | None, list[Fault]]:
     """The machine count that a comment states, or none, and the faults of comments that should state it and do not."""
     stated, first, found = None, None, []
     for number, row in rows:
-        comment = " ".join(row).rstrip()
-        if not re.match(r"#\s*machines", comment, re.IGNORECASE):
+        comment = " ".join(row).strip()
+        if not is_comment(row) or not is_of_machines(comment):
             continue
-        count = re.fullmatch(r"#\s*machines(?:\s*[:=]\s*|\s+)([0-9]{1,9})", comment, re.IGNORECASE)
+        count = re.fullmatch(r"#\s*machines(?:\s*[:=]\s*|\s+)([0-9]+)", comment, re.IGNORECASE)
         if not count:
             text = f"{desk.quoted(comment)} states no machine count; it is written # machines 4"
             found.append(Fault(None, number, None, text + desk.strange(comment)))
         elif stated is None:
-            stated, first = int(count[1]), number
-        elif int(count[1]) != stated:
-            found.append(Fault(None, number, None, f"{desk.quoted(comment)}, and row {first} states {stated} machines"))
+            stated, first = whole(count[1]), number
+        elif whole(count[1]) != stated:
+            found.append(Fault(None, number, None, f"{desk.quoted(comment)}, and row {first} states {books.digits_of(stated)} machines"))
     return stated, found
 
 
+def is_comment(row: list[str]) -> bool:
+    return row[0].lstrip().startswith("#")
+
+
+def is_of_machines(comment: str) -> bool:
+    """Whether it may be meant to state the machine count: it begins with the word, or has it and a digit."""
+    comment = comment.lower()
+    return bool(re.match(r"#\s*machines", comment) or re.search(r"(?<![a-z])machines?(?![a-z])", comment) and re.search(r"\d", comment))
+
+
 def without_header(rows: Rows) -> Rows:
-    rows = [(number, row) for number, row in rows if not row[0].startswith("#")]
+    rows = [(number, row) for number, row in rows if not is_comment(row)]
     header = ",".join(COLUMNS)
     if not rows:
         raise desk.Stop(f"the header {header} is missing, and so is every other row")
@@ -110,16 +129,16 @@ def why_no_header(cells: list[str]) -> str:
 
 
 def parted_otherwise(cells: list[str]) -> str:
-    """What to say of a row whose cells are not parted by commas, and otherwise nothing."""
-    mark = next((mark for mark in OTHER_MARKS if len(cells) == 1 and mark in cells[0]), None)
+    """What to say of a row that another mark parts into more cells than commas do, and otherwise nothing."""
+    mark = next((mark for mark in OTHER_MARKS if "".join(cells).count(mark) >= len(cells)), None)
     return f"its cells are parted by {OTHER_MARKS[mark]}, not by commas" if mark else ""
 
 
 class Row:
     """A row of the header's length: the entry that it states, and the faults of its cells without a meaning.
 
-    Such a cell has no number of document 01 and cannot be written. In the entry stands a value that the rules accept, so that
-    the other cells can be held against them.
+    Such a cell has no number and cannot be written. In the entry stands a value that the rules accept, so that the other cells
+    can be held against them.
     """
 
     def __init__(self, number: int, row: list[str], anyway: bool) -> None:
@@ -128,7 +147,7 @@ class Row:
         bare = not self.cells["coupon"].strip()
         likely = books.ZERO if bare else books.FIXED
         kind = self.read("kind", lambda text: kind_of(text, anyway), "is neither zero nor fixed", likely)
-        periods = self.read("periods", lambda text: int(plain(text)), "is not a whole number", 1)
+        periods = self.read("periods", whole, "is not a whole number", 1)
         coupon = 0.0 if bare and kind == books.ZERO else self.read_rate("coupon")
         self.entry = Entry(self.cells["identifier"].encode("utf-8"), kind, periods, 0, coupon, self.read_rate("yield"))
 
@@ -142,27 +161,50 @@ class Row:
             return accepted
 
     def read_rate(self, column: str) -> float:
-        return self.read(column, lambda text: float(plain(text)), "is not a number", 0.0)
+        hint = rate_hint(column, self.cells[column].strip())
+        return self.read(column, lambda text: float(plain(text)), f"is not a number{hint}", 0.0)
+
+    def stated(self) -> books.Stated:
+        return books.Stated(self.number, self.entry, {column: cell.strip() for column, cell in self.cells.items()})
 
     def doubts(self) -> collections.abc.Iterator[Fault]:
         """Rates that the rules accept, and that may be in the other unit."""
-        coupon, ytm = self.entry.coupon, self.entry.ytm
-        if 0 < coupon < LEAST_COUPON:
-            percent = f"{100 * coupon:g}"
-            text = f"{coupon!r} is taken as {coupon!r} per 100 of face; a coupon of {percent} percent is written {percent}"
+        _, entry, texts = self.stated()
+        shown = {column: desk.shortened(text) for column, text in texts.items()}
+        if 0 < entry.coupon < LEAST_COUPON:
+            percent = books.shifted(texts["coupon"], 2)
+            text = f"{shown['coupon']} is taken as {shown['coupon']} per 100 of face; a coupon of {percent} percent is written {percent}"
             yield Fault(None, self.number, "coupon", text)
-        if MOST_YIELD < ytm <= 1:
-            text = f"{ytm!r} is taken as {100 * ytm:g} percent; a yield of {ytm:g} percent is written {ytm / 100:g}"
+        if MOST_YIELD < entry.ytm <= 1:
+            percent, fraction = books.shifted(texts["yield"], 2), books.shifted(texts["yield"], -2)
+            text = f"{shown['yield']} is taken as {percent} percent; a yield of {shown['yield']} percent is written {fraction}"
             yield Fault(None, self.number, "yield", text)
+
+
+def rate_hint(column: str, text: str) -> str:
+    """What is said of a rate that is no number, where it may be meant as one."""
+    if "," in text:
+        return f"; {POINT}"
+    number = text[:-1].rstrip()
+    if not text.endswith("%") or not re.fullmatch(r"[0-9]+(\.[0-9]+)?", number):
+        return ""
+    return f"; {desk.shortened(number)} percent is written {books.shifted(number, -2 if column == 'yield' else 0)}"
 
 
 def kind_of(text: str, anyway: bool) -> int:
     text = text.strip().lower()
-    return int(plain(text)) if anyway and text.isdecimal() else KINDS[text]
+    return whole(text) if anyway and text.isdecimal() else KINDS[text]
+
+
+def whole(text: str) -> int:
+    """A whole number of any length, which int() does not read."""
+    if not re.fullmatch("[+-]?[0-9]+", plain(text)):
+        raise ValueError
+    return int(decimal.Decimal(plain(text)))
 
 
 def plain(text: str) -> str:
-    """The text of a number. int() and float() read 2_0 as 20, and digits of other scripts, which a cell hardly means."""
+    """The text of a number. float() reads 2_0 as 20, and digits of other scripts, which a cell hardly means."""
     text = text.strip()
     if "_" in text or not text.isascii():
         raise ValueError
@@ -177,7 +219,8 @@ def read_rows(rows: Rows, anyway: bool) -> tuple[list[Row], list[Fault]]:
 
 
 def length_text(row: list[str]) -> str:
-    return parted_otherwise(row) or f"{desk.plural(len(row), 'cell')}, and the header has {len(COLUMNS)}"
+    more = f"; {POINT}" if len(row) > len(COLUMNS) else ""
+    return parted_otherwise(row) or f"{desk.plural(len(row), 'cell')}, and the header has {len(COLUMNS)}{more}"
 
 
 # Faults as messages.
@@ -218,13 +261,10 @@ class Sheet:
         if not anyway and len(self.rows) > books.MOST_ENTRIES:
             refuse([*self.faults, *books.size_faults(machines, len(self.rows))])
         read, found = read_rows(self.rows, anyway)
-        entries, numbers = [row.entry for row in read], [row.number for row in read]
-        rules = [] if anyway else [*books.size_faults(machines, len(entries)), *books.entry_faults(entries, numbers)]
-        refuse(self.faults + found + rules)
-        try:
-            return books.book_of(machines, entries), [doubt for row in read for doubt in row.doubts()]
-        except struct.error:
-            raise desk.Stop("a number is too large or too small for its place in a book") from None
+        stated = [row.stated() for row in read]
+        rules = books.place_faults(machines, stated) if anyway else [*books.size_faults(machines, len(read)), *books.entry_faults(stated)]
+        refuse([*self.faults, *found, *rules])
+        return books.book_of(machines, [row.entry for row in read]), [doubt for row in read for doubt in row.doubts()]
 
 
 def make(text: str) -> bytes:
@@ -240,8 +280,13 @@ def show(book: bytes) -> str:
     out.write(f"# machines {machines}\n")
     writer.writerow(COLUMNS)
     for entry in entries:
-        writer.writerow([entry.identifier.decode("ascii", "backslashreplace"), *shown_term(entry)])
+        writer.writerow([shown_identifier(entry.identifier), *shown_term(entry)])
     return out.getvalue()
+
+
+def shown_identifier(identifier: bytes) -> str:
+    """A byte that is no character of ASCII, or one that a terminal would act on, is shown by its number."""
+    return "".join(chr(byte) if 32 <= byte < 127 else f"\\x{byte:02x}" for byte in identifier)
 
 
 def shown_term(entry: Entry) -> tuple[str, int, str, str]:
@@ -257,16 +302,17 @@ def command_make(args: argparse.Namespace) -> None:
     with desk.making(args.book):
         sheet = Sheet(desk.read_text(args.csv))
         data, doubts = sheet.book(args.machines, args.anyway)
-        if args.machines is None and sheet.machines is None:
-            desk.say(f"no machine count is stated: {MACHINES} machines are taken\n")
     desk.write_bytes(args.book, data, [args.csv])
-    desk.warn(desk.listed([f"warning: {told(doubt)}" for doubt in doubts], "warning"))
+    unstated = args.machines is None and sheet.machines is None
+    warnings = [f"no machine count is stated: {MACHINES} machines are taken"] if unstated else []
+    warnings += [] if sheet.rows else ["no bonds"]
+    desk.warn(desk.listed([f"warning: {text}" for text in [*warnings, *map(told, doubts)]], "warning"))
     if books.number_of(data) != 0:
         desk.warn(f"{args.book} is a faulty book: refused {books.number_of(data)}")
 
 
 def command_show(args: argparse.Namespace) -> None:
-    book = desk.read_bytes(args.book)
+    book = desk.read_bytes(args.book, books.MOST_BYTES)
     shape = books.shape_fault(book)
     if shape:
         raise desk.Stop(f"{args.book}: {told(shape)}", desk.REFUSED)
@@ -276,22 +322,22 @@ def command_show(args: argparse.Namespace) -> None:
 
 def whole_number(text: str) -> int:
     try:
-        return int(plain(text))
+        return whole(text)
     except ValueError:
         raise argparse.ArgumentTypeError(f"{desk.quoted(text)} is not a whole number") from None
 
 
 def main() -> int:
-    parser = desk.parser(__doc__)
+    parser = desk.Parser(description=__doc__)
     commands = parser.add_subparsers(required=True, metavar="make|show")
-    making = commands.add_parser("make", help="make book.bin from a CSV file", epilog=parser.epilog)
-    making.add_argument("csv", metavar="BOOK.csv")
-    making.add_argument("book", metavar="book.bin")
+    making = commands.add_parser("make", help="make book.bin from a CSV file", description=parser.description)
+    making.add_argument("csv", metavar="BOOK.csv", type=desk.stated_path)
+    making.add_argument("book", metavar="book.bin", type=desk.stated_path)
     making.add_argument("--machines", type=whole_number, metavar="N", help="machine count, 2 to 16")
     making.add_argument("--anyway", action="store_true", help="write a faulty book too")
     making.set_defaults(command=command_make)
-    showing = commands.add_parser("show", help="print a book as CSV", epilog=parser.epilog)
-    showing.add_argument("book", metavar="book.bin")
+    showing = commands.add_parser("show", help="print a book as CSV", description=parser.description)
+    showing.add_argument("book", metavar="book.bin", type=desk.stated_path)
     showing.set_defaults(command=command_show)
     args = parser.parse_args()
     args.command(args)

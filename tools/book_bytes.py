@@ -4,6 +4,7 @@ It is not run by itself, and needs Python's standard library only. This is the o
 a book. make_book_cases.py has functions of its own, so that what it decides is a test of these (test_desk.py).
 """
 import collections.abc
+import decimal
 import string
 import struct
 import typing
@@ -15,6 +16,8 @@ ZERO, FIXED = 1, 2  # the kinds
 MOST_ENTRIES = 64
 SIZES = struct.Struct("<HH")  # machine count, entry count
 TERM = struct.Struct("<BBBdd")  # kind, periods, spare, coupon, yield
+MOST_BYTES = 4 + 31 * MOST_ENTRIES
+MOST_SIZE, MOST_BYTE = 0xFFFF, 0xFF  # that there is a place for
 LETTERS, DIGITS = (string.ascii_uppercase, "A to Z"), (string.digits, "0 to 9")
 EITHER = (LETTERS[0] + DIGITS[0], "A to Z or 0 to 9")
 FORM = [LETTERS] * 2 + [EITHER] * 9 + [DIGITS]  # of an identifier: for each place the characters, and how they are called
@@ -29,6 +32,13 @@ class Entry(typing.NamedTuple):
     spare: int
     coupon: float
     ytm: float
+
+
+class Stated(typing.NamedTuple):
+    """An entry, where it stands, and the numbers of its term as they are told, by column."""
+    row: int
+    entry: Entry
+    texts: dict[str, str]
 
 
 class Fault(typing.NamedTuple):
@@ -76,33 +86,57 @@ def identifier_fault(identifier: bytes, rows: dict[bytes, int], row: int) -> tup
     text = identifier.decode("utf-8", "surrogateescape")
     why = form_fault(text)
     if why:
-        meant = meant_by(text)
-        hint = f"; did you mean {meant}?" if meant and rows.setdefault(meant.encode("ascii"), row) == row else ""
-        return 4, f"{desk.quoted(text)} is no identifier: {why}{hint}"
+        return 4, f"{desk.quoted(text)} is no identifier: {why}{identifier_hint(meant_by(text), rows, row)}"
     digit = check_digit(identifier[:-1])
     if int(text[-1]) != digit:
         return 5, f"the check digit of {text} is {digit}"
     return (6, f"{text} is the identifier of row {rows[identifier]} too") if rows[identifier] != row else None
 
 
+def identifier_hint(meant: str, rows: dict[bytes, int], row: int) -> str:
+    if not meant:
+        return ""
+    other = rows.setdefault(meant.encode("ascii"), row)
+    return f"; did you mean {meant}?" if other == row else f"; as {meant} it is the identifier of row {other} too"
+
+
+# Numbers as texts.
+
+
+def texts_of(entry: Entry) -> dict[str, str]:
+    """Where no cell states them."""
+    return {"kind": str(entry.kind), "periods": str(entry.periods), "coupon": repr(entry.coupon), "yield": repr(entry.ytm)}
+
+
+def shifted(text: str, places: int) -> str:
+    """The text of a decimal number times a power of ten, with all its digits."""
+    return desk.shortened(f"{decimal.Decimal(text).scaleb(places, decimal.Context(prec=decimal.MAX_PREC)):f}")
+
+
+def digits_of(number: int) -> str:
+    """Of a whole number of any length, which Python's str() does not take."""
+    return desk.shortened(f"{decimal.Decimal(number):f}")
+
+
 # The rules of "The book", and the places Book and Lowest faulty entry of the refusals.
 
 
-def term_faults(entry: Entry) -> collections.abc.Iterator[tuple[str, str]]:
+def term_faults(entry: Entry, texts: dict[str, str]) -> collections.abc.Iterator[tuple[str, str]]:
     """The columns of a term that are outside the rules; all of them are 7. A NaN fails each comparison."""
+    shown = {column: desk.shortened(text) for column, text in texts.items()}
     if entry.kind not in (ZERO, FIXED):
-        yield "kind", f"{entry.kind} is neither 1 (zero) nor 2 (fixed)"
+        yield "kind", f"{shown['kind']} is neither 1 (zero) nor 2 (fixed)"
     if not 1 <= entry.periods <= 240:
-        yield "periods", f"{entry.periods} is outside 1 to 240"
+        yield "periods", f"{shown['periods']} is outside 1 to 240"
     if entry.spare != 0:
         yield "spare", f"the spare byte is {entry.spare}, not 0"
     if not 0 <= entry.coupon <= 100:
-        yield "coupon", f"{entry.coupon!r} is outside 0 to 100"
+        yield "coupon", f"{shown['coupon']} is outside 0 to 100"
     elif entry.kind == ZERO and not is_bare(entry):
-        yield "coupon", f"a zero has no coupon, and this is {entry.coupon!r}"
+        yield "coupon", f"a zero has no coupon, and this is {shown['coupon']}"
     if not 0 <= entry.ytm <= 1:
-        hint = f"; {entry.ytm:g} percent is written {entry.ytm / 100:g}" if 1 < entry.ytm <= 100 else ""
-        yield "yield", f"{entry.ytm!r} is outside 0 to 1{hint}"
+        hint = f"; {shown['yield']} percent is written {shifted(texts['yield'], -2)}" if 1 < entry.ytm <= 100 else ""
+        yield "yield", f"{shown['yield']} is outside 0 to 1{hint}"
 
 
 def is_bare(entry: Entry) -> bool:
@@ -112,21 +146,33 @@ def is_bare(entry: Entry) -> bool:
 
 def size_faults(machines: int, n: int) -> collections.abc.Iterator[Fault]:
     if not 2 <= machines <= 16:
-        yield Fault(2, None, None, f"machines: {machines} is outside 2 to 16")
+        yield Fault(2, None, None, f"machines: {digits_of(machines)} is outside 2 to 16")
     if not 0 <= n <= MOST_ENTRIES:
         yield Fault(2, None, None, f"{n} bonds, and a book has {MOST_ENTRIES} at most")
 
 
-def entry_faults(entries: list[Entry], rows: collections.abc.Sequence[int] = SHOWN_ROWS) -> collections.abc.Iterator[Fault]:
-    """Every fault of the entries, which stand in these rows. The number of a book of the right sizes is that of the first one."""
+def entry_faults(stated: list[Stated]) -> collections.abc.Iterator[Fault]:
+    """Every fault of the entries. The number of a book of the right sizes is that of the first one."""
     first: dict[bytes, int] = {}
-    for entry, row in zip(entries, rows):
+    for row, entry, _ in stated:
         first.setdefault(entry.identifier, row)
-    for entry, row in zip(entries, rows):
+    for row, entry, texts in stated:
         fault = identifier_fault(entry.identifier, first, row)
         if fault:
             yield Fault(fault[0], row, "identifier", fault[1])
-        yield from (Fault(7, row, column, text) for column, text in term_faults(entry))
+        yield from (Fault(7, row, column, text) for column, text in term_faults(entry, texts))
+
+
+def place_faults(machines: int, stated: list[Stated]) -> collections.abc.Iterator[Fault]:
+    """The numbers that even a faulty book has no place for."""
+    for name, size in (("machines", machines), ("bonds", len(stated))):
+        if not 0 <= size <= MOST_SIZE:
+            yield Fault(None, None, None, f"{name}: {digits_of(size)} does not fit into its place, which takes 0 to {MOST_SIZE}")
+    for row, entry, texts in stated:
+        for column, number in (("kind", entry.kind), ("periods", entry.periods)):
+            if not 0 <= number <= MOST_BYTE:
+                text = f"{desk.shortened(texts[column])} does not fit into its place, which takes 0 to {MOST_BYTE}"
+                yield Fault(None, row, column, text)
 
 
 def shape_fault(book: bytes) -> Fault | None:
@@ -137,7 +183,8 @@ def shape_fault(book: bytes) -> Fault | None:
     for fault in size_faults(machines, n):
         return fault
     if len(book) != 4 + 31 * n:
-        return Fault(3, None, None, f"{len(book)} bytes, and a book of {n} bonds has {4 + 31 * n}")
+        length = len(book) if len(book) <= MOST_BYTES else f"more than {MOST_BYTES}"
+        return Fault(3, None, None, f"{length} bytes, and a book of {n} bonds has {4 + 31 * n}")
     return None
 
 
@@ -147,7 +194,7 @@ def faults(book: bytes) -> collections.abc.Iterator[Fault]:
     if shape:
         yield shape
     else:
-        yield from entry_faults(parts(book)[1])
+        yield from entry_faults([Stated(row, entry, texts_of(entry)) for row, entry in zip(SHOWN_ROWS, parts(book)[1])])
 
 
 def number_of(book: bytes) -> int:

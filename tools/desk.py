@@ -7,16 +7,23 @@ import collections.abc
 import contextlib
 import os
 import pathlib
+import re
 import stat
 import sys
 import tempfile
 import typing
 import unicodedata
 
-DONE, FAULTY, REFUSED = 0, 1, 3  # exit statuses; 2, for wrong usage, is argparse's
+if sys.version_info < (3, 10):  # before anything that an older one does not know
+    sys.exit("Python 3.10 or later is needed, and this is %d.%d" % sys.version_info[:2])
+
+DONE, FAULTY, REFUSED, INTERRUPTED = 0, 1, 3, 130  # exit statuses; 2, for wrong usage, is argparse's
+MOST_BYTES = 4000000  # that are read of a text or of a list of events
 MOST_NAMED = 20  # faults of an input
 MOST_SHOWN = 60  # characters of a text within a message
 BLANKS = {" ": "a space", "\t": "a tab", "\n": "a line end", "\r": "a line end", "\u00a0": "a no-break space"}
+SPREADSHEET, UTF_16 = "a spreadsheet file: save it as CSV (UTF-8)", "UTF-16: save it as UTF-8"
+NO_TEXTS = {b"PK\3\4": SPREADSHEET, b"\xd0\xcf\x11\xe0": SPREADSHEET, b"\xff\xfe": UTF_16, b"\xfe\xff": UTF_16}  # by the first bytes
 
 Path = str | os.PathLike[str]
 
@@ -32,28 +39,57 @@ class Stop(Exception):
 # Files.
 
 
-def read_bytes(path: Path) -> bytes:
+def read_bytes(path: Path, most: int = MOST_BYTES) -> bytes:
+    """The bytes of a file; of one that has more than the most, these and one more."""
     try:
-        return pathlib.Path(path).read_bytes()
+        with open(path, "rb") as file:
+            return file.read(most + 1)
     except (OSError, ValueError) as fault:
         raise Stop(f"{path} cannot be read: {reason(fault)}") from None
 
 
+def read_whole(path: Path) -> bytes:
+    data = read_bytes(path)
+    if len(data) > MOST_BYTES:
+        raise Stop(f"{path} is longer than any book or list of events: it has more than {MOST_BYTES} bytes")
+    return data
+
+
 def read_text(path: Path) -> str:
     """UTF-8, with or without the mark that spreadsheets put first."""
+    data = read_whole(path)
+    kind = next((words for start, words in NO_TEXTS.items() if data.startswith(start)), None)
+    if kind:
+        raise Stop(f"{path} is {kind}")
+    if 0 in data:
+        raise Stop(f"{path} is not a text: line {line_of(data, data.index(0))} has a NUL")
     try:
-        return read_bytes(path).decode("utf-8-sig")
+        return data.decode("utf-8-sig")
     except UnicodeDecodeError as fault:
-        raise Stop(f"{path} is not UTF-8 text: byte {fault.start}") from None
+        raise Stop(f"{path} is not UTF-8 text: line {line_of(data, fault.start)} has the byte {data[fault.start]}") from None
+
+
+def line_of(data: bytes, place: int) -> int:
+    return len(re.split(b"\r\n|\r|\n", data[:place]))
 
 
 def write_bytes(path: Path, data: bytes, inputs: collections.abc.Iterable[Path]) -> None:
-    """Writes a file whole or not at all, and never over one of the inputs that it was made of."""
+    """Writes a file whole or not at all, and never over one of the inputs that it was made of.
+
+    A device, a pipe and what is open as an output are written directly.
+    """
     for source in inputs:
         if is_same(path, source):
             raise Stop(f"{path} is not written: it is the same file as the input {source}")
+    if sys.stdout is None and is_same(path, "/dev/stdout"):
+        raise Stop(f"{path} cannot be written: standard output is closed")
     try:
-        if is_replaced(path):
+        found = stat_of(path)
+        descriptor = output_of(found)
+        if descriptor is not None:
+            with open(descriptor, "wb", closefd=False) as out:
+                out.write(data)
+        elif found is None or stat.S_ISREG(found.st_mode):
             replace(os.path.realpath(path), data)
         else:
             pathlib.Path(path).write_bytes(data)
@@ -69,27 +105,25 @@ def is_same(path: Path, other: Path) -> bool:
         return os.path.realpath(path) == os.path.realpath(other)
 
 
-def is_replaced(path: Path) -> bool:
-    """Whether a new file takes the place of this one. A device, a pipe and what is open as an output are written directly."""
+def stat_of(path: Path) -> os.stat_result | None:
     try:
-        found = os.stat(path)
+        return os.stat(path)
     except FileNotFoundError:
-        return True
-    return stat.S_ISREG(found.st_mode) and not is_output(found)
+        return None
 
 
-def is_output(found: os.stat_result) -> bool:
-    """Whether it is the file of standard output or error, as /dev/stdout is where the output goes to a file."""
+def output_of(found: os.stat_result | None) -> int | None:
+    """The descriptor of standard output or error where that is this file, as /dev/stdout is. To open it again would empty it."""
     for descriptor in (1, 2):
         with contextlib.suppress(OSError):  # it is closed
-            if os.path.samestat(found, os.fstat(descriptor)):
-                return True
-    return False
+            if found is not None and os.path.samestat(found, os.fstat(descriptor)):
+                return descriptor
+    return None
 
 
 def replace(path: str, data: bytes) -> None:
     """Writes beside a file, which no link is, and then takes its place: where the disk is full the old file is still whole."""
-    old = os.stat(path) if os.path.exists(path) else None
+    old = stat_of(path)
     if old is not None:
         os.close(os.open(path, os.O_WRONLY))  # a file that must not be written must not be replaced
     descriptor, name = new_file(os.path.dirname(path))
@@ -108,6 +142,8 @@ def replace(path: str, data: bytes) -> None:
 def new_file(folder: str) -> tuple[int, str]:
     try:
         return tempfile.mkstemp(prefix=".", suffix=".new", dir=folder)
+    except FileNotFoundError as fault:
+        raise OSError(fault.errno, f"there is no folder {folder}") from None
     except OSError as fault:
         raise OSError(fault.errno, f"the folder {folder} takes no new file: {reason(fault)}") from None
 
@@ -163,10 +199,13 @@ def named(character: str) -> str:
     return f"{unicodedata.name(character, 'the character').lower()} (U+{code:04X})"
 
 
+def shortened(text: str) -> str:
+    return text if len(text) <= MOST_SHOWN else text[:MOST_SHOWN] + "..."
+
+
 def quoted(text: str) -> str:
     """A text within a message: not too long, and with words for what cannot be seen."""
-    short = text if len(text) <= MOST_SHOWN else text[:MOST_SHOWN] + "..."
-    return "'" + "".join(c if c.isprintable() else f"<{named(c)}>" for c in short) + "'"
+    return "'" + "".join(c if c.isprintable() else f"<{named(c)}>" for c in shortened(text)) + "'"
 
 
 def strange(text: str) -> str:
@@ -178,26 +217,41 @@ def strange(text: str) -> str:
 # Running a tool.
 
 
-def parser(doc: str | None) -> argparse.ArgumentParser:
-    """A tool's parser. Its help has the first line of the docstring, and the last paragraph, which is about the exit status."""
-    text = (doc or "").strip()
-    return argparse.ArgumentParser(description=text.partition("\n")[0], epilog=text.rpartition("\n\n")[2])
+class Parser(argparse.ArgumentParser):
+    """Of a tool or of one of its commands. Its description, the docstring, keeps its lines."""
+
+    def __init__(self, **options: typing.Any) -> None:
+        super().__init__(formatter_class=argparse.RawDescriptionHelpFormatter, **options)
+
+    def print_help(self, file: typing.Any = None) -> None:
+        """argparse's own ends well where the output takes nothing."""
+        say(self.format_help())
+
+
+def stated_path(text: str) -> str:
+    """The path of an argument."""
+    if not text:
+        raise argparse.ArgumentTypeError("the path is empty")
+    return text
 
 
 def run(main: collections.abc.Callable[[], int]) -> typing.NoReturn:
     """Runs a tool, whose exit status main returns. A Stop prints its message, each line after the tool's name."""
     try:
-        try:
-            status = main()
-        finally:
-            if sys.stdout is not None:
-                say("")  # the help, which argparse prints, is still to be flushed
+        status = main()
     except Stop as stop:
         warn(str(stop))
         status = stop.status
     except BrokenPipeError:  # the reader of the output has left, as head does
         leave(sys.stdout)
         status = FAULTY
+    except MemoryError:
+        warn("there is too little memory")
+        status = FAULTY
+    except KeyboardInterrupt:
+        if sys.stdout is not None:
+            leave(sys.stdout)
+        status = INTERRUPTED
     sys.exit(status)
 
 

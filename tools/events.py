@@ -4,7 +4,7 @@
     python3 tools/events.py make LIST.txt events.bin
     python3 tools/events.py show events.bin
 
-It needs Python's standard library only.
+It needs Python 3.10 or later, and its standard library only.
 
 A line is an event; what follows a # is a comment, and empty lines are skipped:
 
@@ -17,12 +17,14 @@ A line is an event; what follows a # is a comment, and empty lines are skipped:
     notice 0 of 3     machine 0 is told that 3 is dead
     raw 9 9 9         any three bytes; as the last line one or two
 
-Words are lower case and a number is 0 to 255; whether the dispatcher accepts the event is for the program to say. make writes
-nothing where a line is no event, and names such lines, the first 20 of them. show prints any events.bin so that make makes the
-same bytes of it, with event k on line k. The program reads no more than the first 60,000 bytes.
+Words are lower case and a number is 0 to 255; whether the dispatcher accepts the event is for the program to say, by a number
+that docs/PROTOCOL.md, "The numbers", has the meaning of. make writes nothing where a line is no event, and names such lines,
+the first 20 of them. show prints any events.bin so that make makes the same bytes of it, with event k on line k. The program
+reads no more than the first 20,000 events; of a longer list, and of one without an event, the tool warns. A file of more than
+4,000,000 bytes it does not read.
 
 The exit status is 0 where the list is written or shown, 1 where a file cannot be read or written or a line is no event, 2 for
-a wrong command.
+a wrong command, 130 where the tool is interrupted.
 """
 import argparse
 import re
@@ -46,7 +48,7 @@ NUMBERS = {
 }
 FORMS = {form.split()[0]: form for form in [*WORDS.values(), RAW]}  # by the first word
 PATTERNS = {code: re.compile(re.sub("[A-Z]+", "([0-9]+)", form)) for code, form in WORDS.items()}
-MOST_READ = 60000  # bytes
+MOST_EVENTS = 20000  # that the program reads
 
 
 def events_of(data: bytes) -> list[bytes]:
@@ -91,8 +93,9 @@ def why_none(words: str) -> str:
     form = FORMS.get(first.lower())
     if form is None:
         return f"{desk.quoted(first)} is none of " + ", ".join(FORMS)
-    if words != words.lower() and is_event(words.lower()):
-        return f"words are lower case; did you mean {words.lower()}?"
+    lower = " ".join(word.lower() if word.lower() in form.split() else word for word in words.split())
+    if lower != words:
+        return why_capitals(lower)
     for word, meant in zip(words.split(), form.split()):
         if meant in NUMBERS and not re.fullmatch("[0-9]+", word):
             return f"{desk.quoted(word)} is not {NUMBERS[meant]}"
@@ -100,11 +103,13 @@ def why_none(words: str) -> str:
     return f"it is written {form}{fewer}, in numbers 0 to 255"
 
 
-def is_event(words: str) -> bool:
+def why_capitals(lower: str) -> str:
+    """What is wrong with words that were not lower case, and now are."""
     try:
-        return len(event_of(words)) == 3
-    except ValueError:
-        return False
+        event_of(lower)
+    except ValueError as fault:
+        return f"words are lower case, and {fault}"
+    return f"words are lower case; did you mean {lower}?"
 
 
 def make(text: str) -> bytes:
@@ -129,33 +134,39 @@ def show(data: bytes) -> str:
     return "".join(text_of(event) + "\n" for event in events_of(data))
 
 
-def warn_of_length(data: bytes) -> None:
-    if len(data) > MOST_READ:
-        desk.warn(f"{len(data)} bytes: the program reads the first {MOST_READ}")
+def as_read(path: desk.Path, data: bytes) -> bytes:
+    """What the program reads of a file of these bytes. Where it has more events, a warning says so."""
+    count = len(events_of(data))
+    if count > MOST_EVENTS:
+        more = " or more" if len(data) > desk.MOST_BYTES else ""
+        desk.warn(f"warning: {path} has {count}{more} events: the first {MOST_EVENTS} are read")
+    return data[:3 * MOST_EVENTS]
 
 
 def command_make(args: argparse.Namespace) -> None:
     with desk.making(args.events):
         data = make(desk.read_text(args.list))
     desk.write_bytes(args.events, data, [args.list])
-    warn_of_length(data)
+    as_read(args.events, data)
+    if not data:
+        desk.warn("warning: no events")
 
 
 def command_show(args: argparse.Namespace) -> None:
-    data = desk.read_bytes(args.events)
+    data = desk.read_whole(args.events)
     desk.say(show(data))
-    warn_of_length(data)
+    as_read(args.events, data)
 
 
 def main() -> int:
-    parser = desk.parser(__doc__)
+    parser = desk.Parser(description=__doc__)
     commands = parser.add_subparsers(required=True, metavar="make|show")
-    making = commands.add_parser("make", help="make events.bin from a list", epilog=parser.epilog)
-    making.add_argument("list", metavar="LIST.txt")
-    making.add_argument("events", metavar="events.bin")
+    making = commands.add_parser("make", help="make events.bin from a list", description=parser.description)
+    making.add_argument("list", metavar="LIST.txt", type=desk.stated_path)
+    making.add_argument("events", metavar="events.bin", type=desk.stated_path)
     making.set_defaults(command=command_make)
-    showing = commands.add_parser("show", help="print events.bin as a list", epilog=parser.epilog)
-    showing.add_argument("events", metavar="events.bin")
+    showing = commands.add_parser("show", help="print events.bin as a list", description=parser.description)
+    showing.add_argument("events", metavar="events.bin", type=desk.stated_path)
     showing.set_defaults(command=command_show)
     args = parser.parse_args()
     args.command(args)

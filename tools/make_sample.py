@@ -189,7 +189,7 @@ def sample_close() -> Program:
 
 
 def write(program: Program) -> None:
-    page = model.page(program.book or b"", (program.events or b"")[:lists.MOST_READ])
+    page = model.page(program.book or b"", (program.events or b"")[:3 * lists.MOST_EVENTS])
     fail_unless(page == program.page, f"the model has another page of {program.crate}")
     folder = ROOT / "crates" / program.crate
     folder.mkdir(parents=True, exist_ok=True)

@@ -1,27 +1,32 @@
 #!/usr/bin/python3
-"""The dispatcher of document 01 in Python: the table, its seven events, and the page.
+"""The dispatcher in Python: the table, its seven events, and the page.
 
     python3 tools/model.py FOLDER [--decimal]
 
 prints the page of the folder's book.bin and events.bin, which the program prints too. With --decimal a price's 16 digits are
-followed by the price as a decimal number, which the program does not print. It needs Python's standard library only.
+followed by the price as a decimal number, which the program does not print. What the number of a refusal means is in
+docs/PROTOCOL.md, "The numbers". It needs Python 3.10 or later, and its standard library only.
 
 It is written from document 01's text and shares nothing with the crates. It is the desk's second opinion, and it tells
 picture.py what happened at each event. It holds tables of runs only, which are never refused 9, so it has no check 9.
 
-A file that cannot be read counts as empty, as it does in the program, and is named on standard error.
+A file that cannot be read counts as empty, as it does in the program, and is named on standard error. Of a list the first
+20,000 events are read; of a longer one the tool warns.
 
 The exit status is 0 where the page is that of an accepted book and a list of events; 1 where one of the two files cannot be
-read, though the page is printed, or where the page cannot be written; 2 for a wrong command; 3 where the book is refused.
+read, though the page is printed, or where the page cannot be written; 2 for a wrong command; 3 where the book is refused;
+130 where the tool is interrupted.
 """
+import desk  # first: it stops an older Python
+
 import collections.abc
 import dataclasses
+import os
 import pathlib
 import struct
 import typing
 
 import book_bytes as books
-import desk
 import events as lists
 
 ROOT = 0
@@ -304,14 +309,15 @@ def files_of(folder: desk.Path) -> tuple[pathlib.Path, pathlib.Path]:
 def read_folder(folder: desk.Path) -> Files:
     """What the folder has; a file that cannot be read is named on standard error."""
     if not pathlib.Path(folder).is_dir():
-        raise desk.Stop(f"{folder} is not a folder")
-    book, events = map(content, files_of(folder))
-    return Files(book or b"", (events or b"")[:lists.MOST_READ], book is None or events is None)
+        raise desk.Stop(f"{folder} is not a folder" if os.path.exists(folder) else f"there is no folder {folder}")
+    paths = files_of(folder)
+    book, events = content(paths[0], books.MOST_BYTES), content(paths[1], desk.MOST_BYTES)
+    return Files(book or b"", lists.as_read(paths[1], events or b""), book is None or events is None)
 
 
-def content(path: pathlib.Path) -> bytes | None:
+def content(path: pathlib.Path, most: int) -> bytes | None:
     try:
-        return desk.read_bytes(path)
+        return desk.read_bytes(path, most)
     except desk.Stop as stop:
         desk.warn(f"{stop}; it counts as empty")
         return None
@@ -341,8 +347,8 @@ def page(book: bytes, events: bytes, decimal: bool = False) -> str:
 
 
 def main() -> int:
-    parser = desk.parser(__doc__)
-    parser.add_argument("folder", metavar="FOLDER")
+    parser = desk.Parser(description=__doc__)
+    parser.add_argument("folder", metavar="FOLDER", type=desk.stated_path)
     parser.add_argument("--decimal", action="store_true", help="print prices as decimal numbers too")
     args = parser.parse_args()
     files = read_folder(args.folder)

@@ -6,15 +6,17 @@
 The folder has the book.bin and events.bin of the run; out.svg is none of them. A title that is too long for the picture is
 shortened, and one with a character that XML does not have, as a control character, is refused. A long run makes a picture of
 more than 32,767 pixels, which some programs do not draw; the tool then says so. A file that cannot be read counts as empty, as
-it does in the program, and is named on standard error. It needs Python's standard library only.
+it does in the program, and is named on standard error. Of a list the first 20,000 events are read; of a longer one the tool
+warns. It needs Python 3.10 or later, and its standard library only.
 
 Time goes down, a row for each event; a machine is a lane, and the line in it is the machine's life. Left of the line stand
 the messages that come to the machine, each at the end of its arrow; right of it are the copies of the bonds that it holds,
-each a bar with the job's number. What happened is told by model.py (by way of history.py), which is document 01 in Python.
+each a bar with the job's number. What happened is told by model.py (by way of history.py). What the number of a refusal means
+is in docs/PROTOCOL.md, "The numbers".
 
 The exit status is 0 where the picture is that of an accepted book and a list of events; 1 where one of the two files cannot be
 read (of a book without events.bin the picture is written all the same), or the picture cannot be written, or the title is
-refused; 2 for a wrong command; 3 where the book is refused.
+refused; 2 for a wrong command; 3 where the book is refused; 130 where the tool is interrupted.
 """
 import collections.abc
 from xml.etree.ElementTree import Element
@@ -417,13 +419,13 @@ def picture(book: bytes, events: bytes, title: str | None = None) -> Element:
 def warn_of_size(root: Element) -> None:
     width, height = int(root.get("width", "")), int(root.get("height", ""))
     if max(width, height) > MOST_PIXELS:
-        desk.warn(f"the picture is {width} pixels wide and {height} high: some programs draw none of more than {MOST_PIXELS}")
+        desk.warn(f"warning: the picture is {width} pixels wide and {height} high: some programs draw none of more than {MOST_PIXELS}")
 
 
 def main() -> int:
-    parser = desk.parser(__doc__)
-    parser.add_argument("folder", metavar="FOLDER")
-    parser.add_argument("svg", metavar="out.svg")
+    parser = desk.Parser(description=__doc__)
+    parser.add_argument("folder", metavar="FOLDER", type=desk.stated_path)
+    parser.add_argument("svg", metavar="out.svg", type=desk.stated_path)
     parser.add_argument("--title", help="the title line")
     args = parser.parse_args()
     with desk.making(args.svg):

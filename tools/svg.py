@@ -8,7 +8,7 @@ from xml.etree.ElementTree import Element, tostring
 
 NAMESPACE = "http://www.w3.org/2000/svg"
 NO_XML = re.compile("[^\t\n\r -\ud7ff\ue000-\ufffd\U00010000-\U0010ffff]")  # the characters that XML has no place for
-NARROWEST = 0.34  # of the widths of characters, where the size is 1
+NARROWEST = 34  # of the widths of characters, where the size is 100
 BOLD = 1.15  # about the width of a bold text, where that of the plain one is 1
 PILL_SIZE = 9.5  # of the letters
 PILL_HEIGHT = 14
@@ -80,24 +80,25 @@ def cross(x: float, y: float, r: float, stroke: str, width: float) -> Element:
 
 def width_of(words: str, size: float) -> float:
     """About the width of a text in a wide font, so that it fits in a narrower one too."""
-    return size * sum(map(character_width, words))
+    return size * sum(map(character_width, words)) / 100
 
 
-def character_width(c: str) -> float:
+def character_width(c: str) -> int:
+    """Whole, since versions of Python add up floats in different ways."""
     if c in " .,:'|ijl/":
         return NARROWEST
     if c in "frt()-":
-        return 0.46
+        return 46
     if c.isupper() or c in "mw\u2192\u2713\u00d7":
-        return 0.76
-    return 1.0 if unicodedata.east_asian_width(c) in "WF" else 0.63
+        return 76
+    return 100 if unicodedata.east_asian_width(c) in "WF" else 63
 
 
 def cut(words: str, size: float, width: float) -> str:
     """The text, or as much of it as fits."""
     if width_of(words, size) <= width:
         return words
-    words = words[:int(width / (NARROWEST * size))]  # no more can fit
+    words = words[:int(100 * width / (NARROWEST * size))]  # no more can fit
     while words and width_of(words + "\u2026", size) > width:
         words = words[:-1]
     return words + "\u2026"

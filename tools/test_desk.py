@@ -3,17 +3,19 @@
 
     python3 tools/test_desk.py
 
-It needs Python's standard library only, and writes to a temporary folder. Where mypy (Debian: mypy) is there it checks the
+It needs Python 3.10 or later and its standard library only, and writes to a temporary folder. Where mypy (Debian: mypy) is there it checks the
 annotations, where cargo is there it builds what bench/run load needs. What is expected is document 01's, or was decided by
 other programs: the books of book_cases with their numbers, the prices of the sample close.
 """
 import contextlib
+import io
 import math
 import os
 import pathlib
 import random
 import resource
 import shutil
+import signal
 import stat
 import struct
 import subprocess
@@ -216,11 +218,13 @@ class Books(Folder):
         for comment in ("# Machines 3", "# machines: 3", "#machines=3", "#MACHINES : 3", "# machines 3  ", "# machines 003", "# machines,3,,,"):
             self.assertEqual(book.make(comment + "\n" + HEADER)[0], 3, comment)
         self.assertEqual(book.make("# machines 3\n" + HEADER + "# Machines: 3\n")[0], 3)
-        self.assertEqual(book.make("# the machines 3\n# a machine\n" + HEADER)[0], 4)
+        self.assertEqual(book.make(" # machines 3\n\t# a comment\n" + HEADER)[0], 3)
+        self.assertEqual(book.make("# the machines\n# a machine\n# machinery of 2024\n# close of 2024\n" + HEADER)[0], 4)
 
     def test_comments_that_should_state_the_machine_count(self):
-        for comment in ("# machines three", "# machines -1", "# machines 3 at the close", "# machines 10000000000", "# machines", "#Machines3",
-                        "# machines 3.0", "# machines 3,at the close", "# machines \u0663", "# machines :: 3", "# machines 1_0"):
+        for comment in ("# machines three", "# machines -1", "# machines 3 at the close", "# machines", "#Machines3", "# machines 3.0",
+                        "# machines 3,at the close", "# machines \u0663", "# machines :: 3", "# machines 1_0", "# the machines 3", "# 3 machines",
+                        "# machine 3", "## machines 3", "# number of machines: 3", "#3machines", " # Machine 3", "# machines,,,,3,bonds"):
             self.assert_refused(HEADER + comment + "\n" + GOOD, "row 2: ", "states no machine count")
         for option in ("--machines=3", "--anyway"):
             self.assert_refused("# machines three\n" + HEADER + GOOD, "row 1: ", "states no machine count", options=[option])
@@ -232,23 +236,31 @@ class Books(Folder):
 
     def test_the_machine_count_that_is_taken_is_told(self):
         done, written = self.make(HEADER + GOOD)
-        self.assertEqual((done.returncode, done.stderr, written[0]), (0, b"", 4))
-        self.assertEqual(done.stdout, b"no machine count is stated: 4 machines are taken\n")
-        for text, options in (("# machines 4\n" + HEADER, ()), (HEADER, ("--machines", "4"))):
-            self.assertEqual(self.make(text, *options)[0].stdout, b"")
+        self.assertEqual((done.returncode, done.stdout, written[0]), (0, b"", 4))
+        self.assertEqual(done.stderr, b"book.py: warning: no machine count is stated: 4 machines are taken\n")
+        for text, options in (("# machines 4\n" + HEADER + GOOD, ()), (HEADER + GOOD, ("--machines", "4"))):
+            self.assertEqual(self.make(text, *options)[0].stderr, b"")
+        self.assertNotIn(b"no machine count", self.make(GOOD)[0].stderr)  # nothing is written
+
+    def test_a_book_without_bonds_is_told(self):
+        done, written = self.make("# machines 2\n" + HEADER)
+        self.assertEqual((done.returncode, done.stderr, written), (0, b"book.py: warning: no bonds\n", b"\2\0\0\0"))
 
     def test_what_spreadsheets_write(self):
         plain = book.make(HEADER + GOOD + SECOND)
         for text in ("\ufeff" + HEADER + GOOD + SECOND, (HEADER + GOOD + SECOND).replace("\n", "\r\n"), HEADER + GOOD + SECOND + ",,,,\n",
+                     (HEADER + GOOD + SECOND).replace("\n", ",, ,\n"),
                      HEADER + "\n" + GOOD + SECOND.replace(",,", ",0,"), HEADER + '"ZZ0000000016","fixed","2","4.0","0.0"\n' + SECOND):
-            self.assertEqual(self.make(text)[1], plain)
+            done, written = self.make(text)
+            self.assertEqual((done.returncode, written), (0, plain), done.stderr)
 
     def test_refused_2(self):
         rows = "".join(f"{name.decode()},zero,1,,0\n" for name in names(65))
         self.assert_refused(HEADER + rows, "65 bonds", "refused 2")
-        for machines in ("1", "17", "-1", "70000"):
-            self.assert_refused(HEADER + GOOD, "machines", machines, "refused 2", options=["--machines=" + machines])
-        self.assert_refused("# machines 1\n" + HEADER + GOOD, "machines", "refused 2")
+        for machines in ("1", "17", "-1", "70000", "9" * 5000):
+            self.assert_refused(HEADER + GOOD, "machines", machines[:60], "refused 2", options=["--machines=" + machines])
+        for machines in ("1", "99999999999", "9" * 5000):
+            self.assert_refused(f"# machines {machines}\n" + HEADER + GOOD, "machines: " + machines[:60], "is outside 2 to 16 (refused 2)")
 
     def test_refused_4(self):
         for name in ("ZZ000000016 ", " ZZ0000000016", "zz0000000016", "ZZ000000016", "ZZ00000000160", "", "ZZ00000000\u00e96", "Z00000000016"):
@@ -269,7 +281,22 @@ class Books(Folder):
                 ("fixed,2,100.00000000000002,0", "coupon"), ("fixed,2,nan,0", "coupon"), ("fixed,2,inf,0", "coupon"), ("fixed,2,4,-0.5", "yield"),
                 ("fixed,2,4,1.0000000000000002", "yield"), ("fixed,2,4,nan", "yield"), ("zero,2,1,0", "coupon"), ("zero,2,-0.0,0", "coupon")):
             self.assert_refused(HEADER + GOOD + "ZZ0000000024," + row + "\n", f"row 3, column {column}", "refused 7")
-        self.assert_refused(HEADER + "ZZ0000000016,fixed,2,4,4.25\n", "4.25 is outside 0 to 1; 4.25 percent is written 0.0425")
+        for ytm, fraction in (("4.25", "0.0425"), ("4.123456789", "0.04123456789"), ("1e1", "0.1"), ("4." + 50 * "1", "0.04" + 50 * "1")):
+            words = f"yield: {ytm} is outside 0 to 1; {ytm} percent is written {fraction} (refused 7)"
+            self.assert_refused(HEADER + f"ZZ0000000016,fixed,2,4, {ytm}\n", words)
+        faulty = book_bytes.book_of(2, entries_of([(book_bytes.FIXED, 2, 0, 4.0, 4.123456789)]))
+        self.assert_message(tool("book.py", "show", self.file("f.bin", faulty)), "4.123456789 percent is written 0.04123456789 (refused 7)")
+
+    def test_long_numbers(self):
+        """They are told by what the cell says, shortened."""
+        nines = "9" * 60 + "... is outside"
+        for terms, words in (("fixed," + "9" * 4000 + ",4,0", "periods: " + nines), ("fixed," + "9" * 5000 + ",4,0", "periods: " + nines),
+                             ("fixed,-" + "9" * 5000 + ",4,0", "periods: -9"), ("fixed,2,1e400,0", "coupon: 1e400 is outside"),
+                             ("fixed,2," + "9" * 5000 + ",0", "coupon: " + nines), ("zero,2," + "1" * 5000 + "e-5000,0", "this is 1111"),
+                             ("fixed,2,4,1e400", "yield: 1e400 is outside"), ("fixed,2,4,-1e-400", "")):
+            done = self.make(f"# machines 2\n{HEADER}ZZ0000000016,{terms}\n")[0]
+            self.assertEqual((done.returncode, words in done.stderr.decode()), (3 if words else 0, True), done.stderr)
+            self.assertLess(len(done.stderr), 400)
 
     def test_identifiers_that_may_be_meant(self):
         """A corrected form is offered where it would pass, and the character in the way is named."""
@@ -278,7 +305,9 @@ class Books(Folder):
                 ("US0378331005\u00a0", "'US0378331005<a no-break space>' is no identifier: character 13 is a no-break space", True),
                 ("\u200bUs0378331005", "character 1 is zero width space (U+200B)", True), ("US\t0378331005", "character 3 is a tab", True),
                 ("us0378331006", "character 1 is 'u'", False), ("US037833100", "it has 11 characters, and an identifier has 12", False),
-                ("US03783310O5 ", "character 13 is a space", False), ("zz0000000016", "character 1 is 'z'", False),
+                ("US03783310O5 ", "character 13 is a space", False),
+                ("zz0000000016", "character 1 is 'z', and A to Z is expected there; as ZZ0000000016 it is the identifier of row 2 too", False),
+                ("ZZ0000000016\u00a0", "as ZZ0000000016 it is the identifier of row 2 too", False),
                 ("ZZ00000000\u00e96", "character 11 is latin small letter e with acute (U+00E9), and A to Z or 0 to 9", False),
                 ("ZZ000000001\u0661", "character 12 is arabic-indic digit one (U+0661), and 0 to 9 is expected", False)):
             done = self.make(HEADER + GOOD + f'"{cell}",zero,2,,0.5\n')[0]
@@ -317,6 +346,9 @@ class Books(Folder):
             said = [line.split(": ", 1)[1] for line in done.stderr.decode().splitlines()]
             self.assertEqual((done.returncode, said), (0, lines), terms)
             self.assertEqual(book_bytes.number_of(written), 0)
+        for terms, words in (("fixed,2,0.04123456789,0", "a coupon of 4.123456789 percent is written 4.123456789"),
+                             ("fixed,2,4,0.9512345678", "is taken as 95.12345678 percent; a yield of 0.9512345678 percent is written 0.009512345678")):
+            self.assertIn(words, self.make(f"# machines 4\n{HEADER}ZZ0000000016,{terms}\n")[0].stderr.decode())
         rows = "".join(f"{name.decode()},fixed,2,0.01,0.99\n" for name in names(64))
         done = self.make("# machines 4\n" + HEADER + rows)[0]
         self.assertEqual((done.returncode, len(done.stderr.splitlines())), (0, 21))
@@ -355,8 +387,14 @@ class Books(Folder):
                 ("ZZ0000000016,fixed,two,4,0", "row 2, column periods"), ("ZZ0000000016,fixed,2.5,4,0", "row 2, column periods"),
                 ("ZZ0000000016,fixed,2,,0", "row 2, column coupon"), ("ZZ0000000016,fixed,2,4%,0", "row 2, column coupon"),
                 ("ZZ0000000016,fixed,2,4,", "row 2, column yield"), ("ZZ0000000016,fixed,2,4", "row 2: 4 cells"),
-                ("ZZ0000000016,fixed," + "9" * 5000 + ",4,0", "row 2, column periods"), ('"ZZ0000000016', "not a CSV file: line 2: "),
+                ('"ZZ0000000016', "not a CSV file: line 2: "),
                 ("ZZ0000000016,fixed,2, ,0", "row 2, column coupon: an empty cell is not a number"),
+                ("ZZ0000000016,fixed,2,4.5%,0", "coupon: '4.5%' is not a number; 4.5 percent is written 4.5"),
+                ("ZZ0000000016,fixed,2,4,4.123456789 %", "yield: '4.123456789 %' is not a number; 4.123456789 percent is written 0.04123456789"),
+                ('ZZ0000000016,fixed,2,"4,5",0', "coupon: '4,5' is not a number; decimals are written with a point"),
+                ("ZZ0000000016,fixed,2,4,5,0", "row 2: 6 cells, and the header has 5; decimals are written with a point"),
+                ("ZZ0000000016;fixed;2;4,5;0,05", "row 2: its cells are parted by semicolons, not by commas"),
+                ("ZZ0000000016,fixed,2,4,0,a;b", "row 2: 6 cells"),
                 ("ZZ0000000016,fixed,2,4,0\u20245", "row 2, column yield: '0\u20245' is not a number: character 2 is one dot leader (U+2024)")):
             self.assert_refused(HEADER + row + "\n", words)
         for text in ("", GOOD, "identifier,kind,periods,yield,coupon\n" + GOOD):
@@ -396,7 +434,11 @@ class Books(Folder):
         self.assertEqual(book_bytes.number_of(self.make(HEADER + GOOD + GOOD, "--anyway")[1]), 6)
         self.assertEqual(book_bytes.number_of(self.make(HEADER + GOOD, "--anyway", "--machines", "1")[1]), 2)
         (self.folder / "book.bin").unlink()
-        self.assert_refused(HEADER + "ZZ0000000016,fixed,256,4,0\n", "too large", options=["--anyway"])
+        text = HEADER + GOOD + "ZZ0000000016,700,256,4,0\nZZ0000000016,fixed,-1,4,0\n"
+        self.assert_lines(self.make(text, "--anyway", "--machines=99999")[0], "machines: 99999 does not fit", "row 3, column kind: 700 does not fit",
+                          "row 3, column periods: 256 does not fit into its place, which takes 0 to 255", "row 4, column periods: -1", str(self.folder))
+        self.assert_refused(HEADER + GOOD * 65536, "bonds: 65536 does not fit into its place, which takes 0 to 65535", options=["--anyway"])
+        self.assert_refused(HEADER + GOOD, "machines: 999", "999... does not fit", options=["--anyway", "--machines=" + "9" * 5000])
 
     def test_show_of_faulty_books(self):
         good = book.make(LISTING_BOOK)
@@ -406,6 +448,15 @@ class Books(Folder):
                 (7, good[:28] + b"\x09" + good[29:]), (7, good[:30] + b"\x01" + good[31:])):
             self.assertEqual(book_bytes.number_of(data), number)
             self.assert_message(tool("book.py", "show", self.file("f.bin", data)), f"refused {number}")
+        long = tool("book.py", "show", self.file("f.bin", good + bytes(100000)))
+        self.assertEqual(long.returncode, 3)
+        self.assert_message(long, "f.bin: more than 1988 bytes, and a book of 2 bonds has 66 (refused 3)")
+
+    def test_show_of_control_characters(self):
+        data = book.make(LISTING_BOOK).replace(b"ZZ0000000024", b"\0\x1b[31m\r\n\x7f\xff\t,")
+        done = tool("book.py", "show", self.file("f.bin", data))
+        self.assert_message(done, "refused 4")
+        self.assertEqual(done.stdout.decode().splitlines()[3], '"\\x00\\x1b[31m\\x0d\\x0a\\x7f\\xff\\x09,",zero,2,,0.5')
 
 
 class Events(Folder):
@@ -444,7 +495,9 @@ class Events(Folder):
                 ("admit -1", "'-1' is not an entry number"), ("steal one from 0", "'one' is not a machine number 0 to 255"),
                 ("admit \uff10", "character 7 is fullwidth digit zero (U+FF10)"), ("admit 0\u200b", "character 8 is zero width space (U+200B)"),
                 ("raw 1 2 3 4", "raw BYTE BYTE BYTE"), ("raw x", "'x' is not a byte"), ("RAW 1 2 3", "did you mean raw 1 2 3?"),
-                ("ADMIT 256", "it is written admit ENTRY, in numbers 0 to 255"),
+                ("ADMIT 256", "words are lower case, and '256' is above 255"), ("steal 256 FROM 0", "words are lower case, and '256' is above 255"),
+                ("RAW 1 2", "words are lower case; did you mean raw 1 2?"),
+                ("STEAL 1", "words are lower case, and it is written steal MACHINE from MACHINE"),
                 ("stael 1 from 0", "'stael' is none of admit, steal")):
             with self.assertRaises(desk.Stop) as found:
                 events.make(line)
@@ -472,9 +525,17 @@ class Events(Folder):
         self.assertEqual(shown.splitlines()[1], "steal 1 from 0")
 
     def test_a_list_too_long_is_told(self):
-        done = tool("events.py", "show", self.file("events.bin", bytes(60003)))
-        self.assertEqual(done.returncode, 0)
-        self.assertIn(b"60003 bytes", done.stderr)
+        for length, count in ((60000, None), (60001, 20001), (60003, 20001), (60004, 20002)):
+            data = self.file("events.bin", bytes(length))
+            told = f"warning: {data} has {count} events: the first 20000 are read\n" if count else ""
+            made = tool("events.py", "make", self.file("e.txt", events.show(bytes(length))), data)
+            shown = tool("events.py", "show", data)
+            self.assertEqual([(done.returncode, done.stderr.decode()) for done in (made, shown)], [(0, "events.py: " * bool(count) + told)] * 2)
+
+    def test_a_list_without_events_is_told(self):
+        done = tool("events.py", "make", self.file("e.txt", "# none\n\n"), self.folder / "events.bin")
+        self.assertEqual((done.returncode, done.stderr), (0, b"events.py: warning: no events\n"))
+        self.assertEqual((self.folder / "events.bin").read_bytes(), b"")
 
 
 class Model(Folder):
@@ -487,7 +548,9 @@ class Model(Folder):
         """The pages that the programs must print; no_files has no folder of data."""
         for crate, status in (("rakhvide", 0), ("sample_close", 0), ("refused_book", 3), ("long_list", 0), ("broken_event", 0)):
             done = tool("model.py", CRATES / crate / "data")
-            self.assertEqual((done.stdout, done.returncode, done.stderr), ((CRATES / crate / "stdout").read_bytes(), status, b""))
+            self.assertEqual((done.stdout, done.returncode), ((CRATES / crate / "stdout").read_bytes(), status))
+            self.assertEqual(b"events.bin has 20002 events: the first 20000 are read\n" in done.stderr, crate == "long_list")
+            self.assertEqual(len(done.stderr.splitlines()), crate == "long_list")
         self.assertEqual(tool("model.py", self.folder).stdout, (CRATES / "no_files" / "stdout").read_bytes())
         self.assertFalse((CRATES / "no_files" / "data").exists())
 
@@ -606,7 +669,8 @@ class Model(Folder):
         self.assert_page("book refused 1\n", 1, ("book.bin", none))
         (self.folder / "book.bin").mkdir()
         self.assert_page("book refused 1\n", 1, ("book.bin", "Is a directory"))
-        self.assert_message(tool("model.py", self.folder / "none"), "not a folder")
+        self.assert_lines(tool("model.py", self.folder / "none"), f"there is no folder {self.folder / 'none'}")
+        self.assert_lines(tool("model.py", self.file("file", "")), f"{self.folder / 'file'} is not a folder")
 
     def test_refused_books_and_long_lists(self):
         for number, data in book_cases():
@@ -614,8 +678,15 @@ class Model(Folder):
                 self.assertEqual(model.page(data, b""), f"book refused {number}\n")
         self.file("book.bin", book.make(LISTING_BOOK))
         self.file("events.bin", bytes(60000) + bytes([1, 0, 0]))
-        lines = tool("model.py", self.folder).stdout.decode().splitlines()
+        done = tool("model.py", self.folder)
+        lines = done.stdout.decode().splitlines()
+        self.assertIn(b"warning: %b has 20001 events: the first 20000 are read\n" % bytes(self.folder / "events.bin"), done.stderr)
         self.assertEqual((len(lines), lines[19999], lines[20000]), (20002, "event 20000 refused 10", "ZZ0000000016 not admitted"))
+        self.file("book.bin", book.make(LISTING_BOOK) + bytes(100000))
+        self.file("events.bin", bytes(desk.MOST_BYTES + 1))
+        done = tool("model.py", self.folder)
+        self.assertEqual((done.stdout, done.returncode), (b"book refused 3\n", 3))
+        self.assertIn(b"has 1333334 or more events: the first 20000 are read\n", done.stderr)
 
 
 class Samples(unittest.TestCase):
@@ -723,6 +794,12 @@ class Picture(Folder):
             done = tool("picture.py", self.folder, self.folder / "out.svg")
             self.assertEqual((done.returncode, b"32767" in done.stderr), (0, told))
             self.assertTrue((self.folder / "out.svg").exists())
+        self.file("events.bin", bytes(60001))
+        self.assertIn(b"events.bin has 20001 events: the first 20000 are read\n", tool("picture.py", self.folder, self.folder / "out.svg").stderr)
+
+    def test_widths(self):
+        """They are the same in each version of Python, of which some add up floats more exactly than others."""
+        self.assertEqual([svg.width_of("i" * 10, 1), svg.width_of("fox" * 10, 100)], [3.4, 1720])
 
     def test_statuses(self):
         """A file that is not read is 1, a refused book 3; without events there is a picture all the same."""
@@ -825,6 +902,13 @@ class Writing(Folder):
                 self.assertEqual(tool(*command, output=output).returncode, 0)
                 self.assertEqual(os.fstat(output.fileno()).st_size, len(data))  # the file that is open, and not another in its place
             self.assertEqual(out.read_bytes(), data)
+            for descriptor in (1, 2):
+                out.write_bytes(b"old")
+                with open(out, "ab") as output:
+                    done = tool(*command[:-1], f"/dev/fd/{descriptor}", **{("output", "errors")[descriptor - 1]: output})
+                self.assertEqual((done.returncode, out.read_bytes()), (0, b"old" + data))
+            done = tool(*command, output=None, before=lambda: os.close(1))
+            self.assert_lines(done, "/dev/stdout cannot be written: standard output is closed")
 
     def test_a_pipe(self):
         pipe = self.folder / "pipe"
@@ -890,14 +974,25 @@ class Bench(Folder):
         self.assertEqual((book_bytes.number_of(files.book), len(files.book), len(files.events)), (0, 4 + 31 * 64, 60000))
 
 
+class Compare(Folder):
+    def test_a_program_that_is_not_built(self):
+        (self.folder / "compare").mkdir()
+        script = shutil.copy(ROOT / "compare" / "program", self.folder / "compare")
+        done = subprocess.run([script], stdout=subprocess.PIPE, stderr=subprocess.PIPE, timeout=60, check=False)
+        self.assertEqual((done.returncode, done.stdout, done.stderr), (2, b"", b"compare/program: run rt check rakhvide first\n"))
+
+
 class Damage(Folder):
     def test_help(self):
-        """It tells the exit statuses."""
+        """It is the whole docstring: formats, numbers, exit statuses."""
         for command in (["book.py"], ["book.py", "make"], ["book.py", "show"], ["events.py"], ["events.py", "make"], ["events.py", "show"],
                         ["model.py"], ["picture.py"]):
             shown = " ".join(tool(*command, "--help").stdout.decode().split())
-            self.assertRegex(shown, "The exit status is 0 where .* 1 where .* 2 for a wrong command")
+            self.assertRegex(shown, "The exit status is 0 where .* 1 where .* 2 for a wrong command.* 130 where the tool is interrupted")
             self.assertEqual("3 where the book is refused" in shown, command[0] != "events.py")
+            self.assertIn('docs/PROTOCOL.md, "The numbers"', shown)
+            self.assertIn({"book.py": book, "events.py": events, "model.py": model, "picture.py": picture}[command[0]].__doc__.strip(),
+                          tool(*command, "--help").stdout.decode())
 
     def test_files_that_cannot_be_read_or_written(self):
         none, good = self.folder / "none", self.file("good.csv", LISTING_BOOK)
@@ -908,7 +1003,13 @@ class Damage(Folder):
                         ["book.py"], ["events.py", "draw"], ["picture.py"], ["model.py"], ["book.py", "make", good, none, "--machines", "x"]):
             self.assert_message(tool(*command))
         (self.folder / "book.bin").write_bytes(book.make(LISTING_BOOK))
-        self.assert_message(tool("picture.py", self.folder, none / "p.svg"), "cannot be written")
+        self.assert_lines(tool("picture.py", self.folder, none / "p.svg"), "/", f"{none / 'p.svg'} cannot be written: there is no folder {none}")
+        for command in (["book.py", "make", "", none], ["book.py", "make", good, ""], ["book.py", "show", ""], ["events.py", "make", "", none],
+                        ["events.py", "make", lines, ""], ["events.py", "show", ""], ["model.py", ""], ["picture.py", "", none],
+                        ["picture.py", none, ""]):
+            done = tool(*command)
+            self.assert_message(done, "the path is empty")
+            self.assertEqual(done.returncode, 2)
 
     def test_an_input_is_not_written_over(self):
         data, rows, lines = self.file("book.bin", book.make(LISTING_BOOK)), self.file("b.csv", LISTING_BOOK), self.file("e.txt", LISTING_EVENTS)
@@ -926,22 +1027,29 @@ class Damage(Folder):
         """Commands that print: one line, and more than is kept back until the end."""
         self.file("book.bin", book.make(LISTING_BOOK))
         self.file("events.bin", bytes(60000))
-        few, rows = self.file("few.bin", bytes(3)), self.file("b.csv", HEADER + GOOD)
+        few = self.file("few.bin", bytes(3))
         return (["book.py", "show", self.folder / "book.bin"], ["events.py", "show", few], ["events.py", "show", self.folder / "events.bin"],
-                ["model.py", self.folder], ["model.py", CRATES / "rakhvide" / "data"], ["book.py", "make", rows, self.folder / "new.bin"])
+                ["model.py", self.folder], ["model.py", CRATES / "rakhvide" / "data"])
 
     def assert_output_fails(self, command, **how):
         done = tool(*command, **how)
         self.assertEqual(done.returncode, 1)
-        making = ["/"] if "make" in command else []  # that nothing is written
-        self.assert_lines(done, "standard output cannot be written", *making)
-        self.assertFalse((self.folder / "new.bin").exists())
+        self.assert_lines(done, "standard output cannot be written")
+
+    def assert_made(self, **how):
+        """make prints nothing, so that any standard output is good."""
+        done = tool("book.py", "make", self.file("b.csv", HEADER + GOOD), self.folder / "new.bin", **how)
+        self.assertEqual((done.returncode, len(done.stderr.splitlines())), (0, 1), done.stderr)
+        self.assertEqual((self.folder / "new.bin").read_bytes(), book.make(HEADER + GOOD))
 
     @unittest.skipUnless(os.path.exists("/dev/full"), "a device of Linux")
     def test_output_that_is_full(self):
-        for command in [*self.printing(), ["model.py", "--help"]]:
-            with open("/dev/full", "wb") as full:
-                self.assert_output_fails(command, output=full)
+        with open("/dev/full", "wb") as full:
+            for unbuffered in ("", "1"):
+                how = {"output": full, "before": lambda value=unbuffered: os.environ.update(PYTHONUNBUFFERED=value)}
+                for command in [*self.printing(), ["model.py", "--help"], ["book.py", "make", "--help"]]:
+                    self.assert_output_fails(command, **how)
+                self.assert_made(**how)
 
     @unittest.skipUnless(os.path.exists("/dev/full"), "a device of Linux")
     def test_warnings_that_cannot_be_said(self):
@@ -956,9 +1064,51 @@ class Damage(Folder):
     def test_output_that_is_closed(self):
         for command in self.printing():
             self.assert_output_fails(command, output=None, before=lambda: os.close(1))
-        rows = self.file("b.csv", LISTING_BOOK)
-        done = tool("book.py", "make", rows, self.folder / "new.bin", output=None, before=lambda: os.close(1))  # prints nothing
-        self.assertEqual((done.returncode, done.stderr), (0, b""))
+        self.assert_made(output=None, before=lambda: os.close(1))
+
+    def test_an_interrupt(self):
+        """While a tool reads."""
+        pipe = self.folder / "pipe"
+        os.mkfifo(pipe)
+        how = {"stdout": subprocess.PIPE, "stderr": subprocess.PIPE, "preexec_fn": lambda: signal.signal(signal.SIGINT, signal.SIG_DFL)}
+        for name in ("book.py", "events.py"):
+            with subprocess.Popen([sys.executable, ROOT / "tools" / name, "show", pipe], **how) as run:
+                with open(pipe, "wb"):  # once the tool has opened it too
+                    run.send_signal(signal.SIGINT)
+                    self.assertEqual((*run.communicate(timeout=60), run.returncode), (b"", b"", 130))
+
+    def test_too_little_memory(self):
+        def fail():
+            raise MemoryError
+        with contextlib.redirect_stderr(io.StringIO()) as said, self.assertRaises(SystemExit) as end:
+            desk.run(fail)
+        self.assertEqual((end.exception.code, said.getvalue().split(": ", 1)[1]), (1, "there is too little memory\n"))
+
+    def test_files_too_long(self):
+        """They are read as far as the longest that has a use."""
+        path = self.file("long", b" " * (desk.MOST_BYTES + 1))
+        for command in (["book.py", "make", path, self.folder / "out"], ["events.py", "make", path, self.folder / "out"], ["events.py", "show", path]):
+            self.assert_message(tool(*command), f"{path} is longer than any book or list of events: it has more than 4000000 bytes")
+        self.file("long", b"\n" * desk.MOST_BYTES)
+        self.assertEqual(tool("events.py", "make", path, self.folder / "out").returncode, 0)
+        self.assertEqual(len(desk.read_bytes(path, 1988)), 1989)
+
+    def test_files_that_are_no_texts(self):
+        for data, words in ((b"a\r\nb\rc\nd\xe9", "not UTF-8 text: line 4 has the byte 233"), (b"\xff", "not UTF-8 text: line 1 has the byte 255"),
+                            (b"\xff\xfea\0", "UTF-16: save it as UTF-8"), (b"\xfe\xff\0a", "UTF-16: save it as UTF-8"),
+                            (b"PK\3\4\0\xff", "a spreadsheet file: save it as CSV (UTF-8)"), (b"a\nb\0", "not a text: line 2 has a NUL"),
+                            (b"\xd0\xcf\x11\xe0\0", "a spreadsheet file: save it as CSV (UTF-8)")):
+            for name in ("book.py", "events.py"):
+                path = self.file("n", data)
+                self.assert_lines(tool(name, "make", path, self.folder / "out"), f"{path} is {words}", f"{self.folder / 'out'} is not written")
+
+    def test_an_older_python(self):
+        """A sentence, before anything that it does not have, as dataclasses."""
+        older = "import runpy, sys; sys.version_info = (3, 6, 15); sys.modules['dataclasses'] = None; runpy.run_path(sys.argv[1], run_name='__main__')"
+        for name in ("book.py", "events.py", "model.py", "picture.py"):
+            done = subprocess.run([sys.executable, "-c", older, ROOT / "tools" / name], env={**os.environ, "PYTHONPATH": str(ROOT / "tools")},
+                                  stdout=subprocess.PIPE, stderr=subprocess.PIPE, timeout=60, check=False)
+            self.assertEqual((done.returncode, done.stdout, done.stderr), (1, b"", b"Python 3.10 or later is needed, and this is 3.6\n"))
 
     def test_noise(self):
         """Any bytes are read or refused in words."""
