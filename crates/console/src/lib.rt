@@ -20,8 +20,8 @@ fn ended(fd: i32) -> bool {
     libc::read(fd, &mut next) == 0
 }
 
-// Reads the file into buf, as far as there is room, and answers how many bytes it read. A file that cannot be opened counts as empty, and so does one that
-// cannot be read so far: no part of a list of events passes for the whole.
+// Reads the file into buf, as far as there is room, and answers how many bytes it read. A file that cannot be opened counts as empty, and so does one whose
+// reading fails before its end or before buf is full: half a list of events does not pass for the list.
 fn load(name: &[u8], buf: &mut [u8]) -> usize
     ensures { λ r. ⌜ Counts r (now (buf .exit)) ⌝ }
 {
