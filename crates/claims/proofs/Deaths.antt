@@ -80,24 +80,24 @@ module _ (t : Table) (w : Whole t) (e : List ℕ) where
   Counted x = deaths (x .table) ≡ deaths t + cond (eqb (x .number) 0 && eqb (codeOf e) 6) 1 0
 
   -- an event of another kind
-  quiet : (u : Table) (k : ℕ) → codeOf e ≡ k → eqb k 6 ≡ false → u .machines ≡ t .machines → ((m : ℕ) → nodeAt u m .alive ≡ nodeAt t m .alive) → Counted (accept u)
-  quiet u k c n same alive =
+  quiet : (u : Table) (k : ℕ) → codeOf e ≡ k → eqb k 6 ≡ false → deaths u ≡ deaths t → Counted (accept u)
+  quiet u k c n same =
       let z : eqb (codeOf e) 6 ≡ false = ap (λ (i : ℕ). eqb i 6) c ∙ n in
-      rw z (omega (arith, deaths-same t u same alive))
+      rw z (omega (arith, same))
 
   deaths-step : deaths (stepOf t e .table) ≡ deaths t + cond (kills t e) 1 0
   deaths-step =
       let a = firstOf e in
       let b = secondOf e in
-      by-cases Counted t e
-      (λ n d. rw (ne-eqb n 0 d) (omega arith))
-      (λ c d. quiet (admitted t a) 1 c refl (fixed-admitted (λ s. s .machines) fixed-machines t a) (alive-admitted t (w .sized) a))
-      (λ c d. quiet (stolen t a b) 2 c refl (fixed-stolen (λ s. s .machines) fixed-machines t a b) (λ m. alive-stolen t (w .sized) a b m (machine-16 a (d .machine))))
-      (λ c d. quiet (delivered t (oldest t a b)) 3 c refl (fixed-delivered (λ s. s .machines) fixed-machines t (oldest t a b)) (λ m. alive-delivered (oldest t a b) m (d .slot)))
-      (λ c d. quiet (started t a b) 4 c refl (fixed-started (λ s. s .machines) fixed-machines t a b) (λ m. alive-started t (w .sized) a b m (machine-16 a (d .machine))))
-      (λ c d. quiet (finished t a) 5 c refl (fixed-finished (λ s. s .machines) fixed-machines t a) (λ m. alive-finished t (w .sized) a m (machine-16 a (d .machine))))
-      (λ c d. rw (eq-eqb (codeOf e) 6 c) (deaths-died t a w d))
-      (λ c d. quiet (noticed t a b) 7 c refl (fixed-noticed (λ s. s .machines) fixed-machines t a b) (λ m. alive-noticed t (w .sized) a b m (machine-16 a (d .machine))))
+      by-cases Counted t e (λ n d r. rw (ne-eqb n 0 d) (omega arith)) (record {
+        admit = λ c d. quiet (admitted t a) 1 c refl (deaths-same t _ (fixed-admitted (λ s. s .machines) fixed-machines t a) (alive-admitted t (w .sized) a));
+        steal = λ c d. quiet (stolen t a b) 2 c refl (deaths-same t _ (fixed-stolen (λ s. s .machines) fixed-machines t a b) (λ m. alive-stolen t (w .sized) a b m (machine-16 a (d .machine))));
+        deliver = λ c d. quiet (delivered t (oldest t a b)) 3 c refl (deaths-same t _ (fixed-delivered (λ s. s .machines) fixed-machines t (oldest t a b)) (λ m. alive-delivered (oldest t a b) m (d .slot)));
+        start = λ c d. quiet (started t a b) 4 c refl (deaths-same t _ (fixed-started (λ s. s .machines) fixed-machines t a b) (λ m. alive-started t (w .sized) a b m (machine-16 a (d .machine))));
+        done = λ c d. quiet (finished t a) 5 c refl (deaths-same t _ (fixed-finished (λ s. s .machines) fixed-machines t a) (λ m. alive-finished t (w .sized) a m (machine-16 a (d .machine))));
+        die = λ c d. rw (eq-eqb (codeOf e) 6 c) (deaths-died t a w d);
+        notice = λ c d. quiet (noticed t a b) 7 c refl (deaths-same t _ (fixed-noticed (λ s. s .machines) fixed-machines t a b) (λ m. alive-noticed t (w .sized) a b m (machine-16 a (d .machine))));
+      })
 
 pub deaths-run : (t : Table) (es : List (List ℕ)) → Whole t → deaths (runOf t es) ≡ deaths t + countOf kills t es
 unfolding runOf

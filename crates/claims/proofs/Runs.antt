@@ -7,15 +7,13 @@ use mathlib.Core.Bool.{Bool, true, false, cond}
 use mathlib.Core.List.{List, [], _∷_, _++_}
 use lib.ListN.{length, getD}
 use Rattle.table.specs.declared.Table.{Table}
-use Rattle.table.specs.declared.Answer.{Answer}
 use Rattle.preservation.proofs.Answers.{Valid}
 use Rattle.dispatcher.specs.Step.{stepOf, runOf, answersOf}
 use Rattle.dispatcher.proofs.Kept.{valid-passes, valid-run, step-answer}
-use Rattle.dispatcher.proofs.Nine.{answer-9}
+use Rattle.dispatcher.proofs.Events.{answer-9, step-refused}
 use Rattle.drain.proofs.Reach.{run-append}
 use Rattle.claims.specs.History.{countOf, delivers, takenOff, resultsOf}
 use Rattle.claims.specs.Claims.{Answered}
-use Rattle.dispatcher.proofs.Events.{by-cases}
 
 pub run-more : (t : Table) (e : List ℕ) (es : List (List ℕ)) → runOf t (e ∷ es) ≡ runOf (stepOf t e .table) es
 unfolding runOf
@@ -30,19 +28,6 @@ pub answer-at : (t : Table) (es : List (List ℕ)) (e : List ℕ) (fs : List (Li
 unfolding runOf answersOf
 answer-at t [] e fs = refl
 answer-at t (d ∷ es) e fs = answer-at (stepOf t d .table) es e fs
-
--- a refused event returns the table as it was
-pub step-refused : (t : Table) (e : List ℕ) → stepOf t e .number ≢ 0 → stepOf t e .table ≡ t
-step-refused t e =
-    by-cases (λ x. x .number ≢ 0 → x .table ≡ t) t e
-    (λ n d f. refl)
-    (λ c d f. absurd (f refl))
-    (λ c d f. absurd (f refl))
-    (λ c d f. absurd (f refl))
-    (λ c d f. absurd (f refl))
-    (λ c d f. absurd (f refl))
-    (λ c d f. absurd (f refl))
-    (λ c d f. absurd (f refl))
 
 step-valid : (t : Table) (e : List ℕ) → Valid t → stepOf t e .number ≢ 9
 step-valid t e v = rw (step-answer t e (valid-passes t v)) (answer-9 t e)

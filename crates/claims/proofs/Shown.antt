@@ -2,7 +2,7 @@
 -- admitted and no machine dead.
 -- Assumes nothing.
 use Prim.Native.Nat.{ℕ, _+_, _≤_, _<_}
-use mathlib.Core.Path.{_≡_, refl, sym, ap, _∙_}
+use mathlib.Core.Path.{_≡_, sym, ap, _∙_}
 use mathlib.Core.List.{List}
 use native.Mathlib.Omega.{arith}
 use lib.ListN.{getD}
@@ -13,30 +13,13 @@ use Rattle.table.specs.declared.Job.{Job}
 use Rattle.table.specs.declared.Table.{Table}
 use Rattle.table.specs.Views.{bondAt, jobAt}
 use Rattle.invariant.proofs.State.{Whole}
-use Rattle.invariant.proofs.Fixed.{Fixed, fixed-bond, fixed-admitted, fixed-stolen, fixed-delivered, fixed-started, fixed-finished, fixed-died, fixed-noticed}
+use Rattle.invariant.proofs.Fixed.{bond-run}
 use Rattle.invariant.proofs.Keeps.{whole-run}
 use Rattle.dispatcher.specs.Step.{runOf}
-use Rattle.dispatcher.proofs.ByEvent.{Kept, by-run}
 use Rattle.claims.specs.History.{countOf, admits, kills, serialOf}
 use Rattle.claims.specs.Claims.{Shown}
 use Rattle.claims.proofs.History.{new-run}
 use Rattle.claims.proofs.Deaths.{deaths, deaths-run, bound-deaths}
-
--- ---- what no update writes stays along a run
-
-fixed-kept : {A : Type 0} (f : Table → A) → Fixed f → (a : A) → Kept (λ t. f t ≡ a)
-fixed-kept f h a = record {
-  admits = λ t i p l e. fixed-admitted f h t i ∙ p;
-  steals = λ t i k p l m alive untold room. fixed-stolen f h t i k ∙ p;
-  delivers = λ t k p l. fixed-delivered f h t k ∙ p;
-  starts = λ t i k p l m alive idle some. fixed-started f h t i k ∙ p;
-  finishes = λ t i p l alive runs room. fixed-finished f h t i ∙ p;
-  dies = λ t i p l n alive. fixed-died f h t i ∙ p;
-  notices = λ t i k p l m alive dead new. fixed-noticed f h t i k ∙ p;
-}
-
-bond-run : (t : Table) (es : List (List ℕ)) (j : ℕ) → bondAt (runOf t es) j ≡ bondAt t j
-bond-run t es j = by-run (λ u. bondAt u j ≡ bondAt t j) (fixed-kept (λ u. bondAt u j) (fixed-bond j) (bondAt t j)) t es refl
 
 -- ---- one machine, bond after bond
 

@@ -131,12 +131,14 @@ module _ (t : Table) (w : Whole t) (e : List ℕ) (j : ℕ) (l : j < 64) where
   pub change-step : Change (admits j t e) (delivers j t e) (finds j t e) (takenOff t e .price) (jobAt t j) (jobAt (stepOf t e .table) j)
   change-step =
       by-cases Told t e
-      (λ n d. rw (ne-eqb n 0 d) (other refl refl refl (same-job (jobAt t j) (jobAt t j) refl)))
-      (λ c d. flags (is-code (codeOf e) 1 _ _ c refl) (not-code (codeOf e) 1 3 _ c refl) (not-code (codeOf e) 1 7 _ c refl)
-      (change-admitted t w j l (firstOf e) (takenOff t e .price) d))
-      (λ c d. quiet (stolen t (firstOf e) (secondOf e)) 2 c refl refl refl (job-stolen t j (firstOf e) (secondOf e)))
-      (λ c d. delivery c (d .slot))
-      (λ c d. quiet (started t (firstOf e) (secondOf e)) 4 c refl refl refl (job-started t j (firstOf e) (secondOf e)))
-      (λ c d. quiet (finished t (firstOf e)) 5 c refl refl refl (job-finished t j (firstOf e)))
-      (λ c d. quiet (died t (firstOf e)) 6 c refl refl refl (job-died t (firstOf e) j))
-      (λ c d. notice c)
+      (λ n d r. rw (ne-eqb n 0 d) (other refl refl refl (same-job (jobAt t j) (jobAt t j) refl)))
+      (record {
+        admit = λ c d. flags (is-code (codeOf e) 1 _ _ c refl) (not-code (codeOf e) 1 3 _ c refl) (not-code (codeOf e) 1 7 _ c refl)
+            (change-admitted t w j l (firstOf e) (takenOff t e .price) d);
+        steal = λ c d. quiet (stolen t (firstOf e) (secondOf e)) 2 c refl refl refl (job-stolen t j (firstOf e) (secondOf e));
+        deliver = λ c d. delivery c (d .slot);
+        start = λ c d. quiet (started t (firstOf e) (secondOf e)) 4 c refl refl refl (job-started t j (firstOf e) (secondOf e));
+        done = λ c d. quiet (finished t (firstOf e)) 5 c refl refl refl (job-finished t j (firstOf e));
+        die = λ c d. quiet (died t (firstOf e)) 6 c refl refl refl (job-died t (firstOf e) j);
+        notice = λ c d. notice c;
+      })

@@ -8,13 +8,13 @@ use borrow.Author.Tests.{le-leb, lt-leb, leb-true}
 use lib.Dec.{eqb, leb}
 use lib.ListN.{length}
 use Rattle.lists.proofs.Cases.{and-left}
-use Rattle.dispatcher.specs.Step.{codeOf, secondOf, usesSecond, formed}
+use Rattle.dispatcher.specs.Step.{codeOf, secondOf, usesSecond, lastCode, formed}
 
 pub formed-short : (e : List ℕ) → length e < 3 → formed e ≡ false
 unfolding formed
 formed-short e h = rw (lt-leb 3 (length e) h)
 
-pub formed-is : (e : List ℕ) → 3 ≤ length e → formed e ≡ (leb 1 (codeOf e) && leb (codeOf e) 7 && (usesSecond (codeOf e) || eqb (secondOf e) 0))
+pub formed-is : (e : List ℕ) → 3 ≤ length e → formed e ≡ (leb 1 (codeOf e) && leb (codeOf e) lastCode && (usesSecond (codeOf e) || eqb (secondOf e) 0))
 unfolding formed
 formed-is e h = rw (le-leb 3 (length e) h)
 
@@ -23,4 +23,4 @@ unfolding formed
 formed-long e f =
     let c = codeOf e in
     let last = usesSecond c || eqb (secondOf e) 0 in
-    leb-true 3 (length e) (and-left (leb 3 (length e)) (leb 1 c) (and-left (leb 3 (length e) && leb 1 c) (leb c 7) (and-left (leb 3 (length e) && leb 1 c && leb c 7) last f)))
+    leb-true 3 (length e) (and-left (leb 3 (length e)) (leb 1 c) (and-left (leb 3 (length e) && leb 1 c) (leb c lastCode) (and-left (leb 3 (length e) && leb 1 c && leb c lastCode) last f)))

@@ -23,14 +23,14 @@ valid-passes t v = passes t (v .sized) (v .ok)
 -- ---- one event
 
 valid-kept : Kept Valid
-valid-kept = record {
-  admits = λ t a v l e. valid-admitted t v a l;
-  steals = λ t a b v la lb alive untold room. valid-stolen t v a b la lb alive room;
-  delivers = λ t k v. valid-delivered t v k;
-  starts = λ t a b v la lb alive idle some. valid-started t v a b la lb alive some;
-  finishes = λ t a v. valid-finished t v a;
-  dies = λ t a v l nz alive. valid-died t v a l nz;
-  notices = λ t a b v. valid-noticed t v a b;
+valid-kept t e v = record {
+  admit = λ c d. valid-admitted t v _ (d .entry);
+  steal = λ c d. valid-stolen t v _ _ (d .machine) (d .victim) (d .alive) (d .room);
+  deliver = λ c d. valid-delivered t v _ (d .slot);
+  start = λ c d. valid-started t v _ _ (d .machine) (d .entry) (d .alive) (d .pooled);
+  done = λ c d. valid-finished t v _ (d .machine) (d .alive) (d .runs) (d .room);
+  die = λ c d. valid-died t v _ (d .machine) (d .other);
+  notice = λ c d. valid-noticed t v _ _ (d .machine) (d .named) (d .alive) (d .dead) (d .new);
 }
 
 -- a table that passes is not refused for 9

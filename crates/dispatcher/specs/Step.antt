@@ -1,6 +1,6 @@
 -- Document 01, "Where each refusal is checked": one event on a table, whatever the table and the bytes of the event; a list of
 -- events, with its table and its numbers; and which events are further ones. Definitions only.
-use mathlib.Core.Bool.{Bool, not, cond, _&&_, _||_}
+use mathlib.Core.Bool.{Bool, true, not, cond, _&&_, _||_}
 use mathlib.Core.List.{List, [], _∷_}
 use Prim.Native.Nat.{ℕ}
 use lib.Dec.{eqb, leb, ltb}
@@ -30,16 +30,25 @@ secondOf e = getD e 2 0
 abbrev pub usesSecond : ℕ → Bool
 usesSecond code = not (eqb code 1 || eqb code 5 || eqb code 6)
 
+-- the codes are 1 to this one
+abbrev pub lastCode : ℕ
+lastCode = 7
+
 -- "code not 1 to 7, unused b not 0, or fewer than three bytes": the contrary
 unfoldable pub formed : List ℕ → Bool
-formed e = leb 3 (length e) && leb 1 (codeOf e) && leb (codeOf e) 7 && (usesSecond (codeOf e) || eqb (secondOf e) 0)
+formed e = leb 3 (length e) && leb 1 (codeOf e) && leb (codeOf e) lastCode && (usesSecond (codeOf e) || eqb (secondOf e) 0)
 
--- "machine or entry number too large": the contrary. Admit's a and Start's b are entry numbers; an unused b is 0 here, and machine 0 is there
+-- Steal, Deliver, Done, Die and Notice: a and b are machine numbers; an unused b is 0 here, and machine 0 is there
+abbrev pub pair : ℕ → Bool
+pair code = eqb code 2 || eqb code 3 || eqb code 5 || eqb code 6 || eqb code 7
+
+-- "machine or entry number too large": the contrary. Admit's a and Start's b are entry numbers
 unfoldable pub numbered : Table → ℕ → ℕ → ℕ → Bool
 numbered t code a b =
-    cond (eqb code 1) (ltb a (t .entries))
+    cond (pair code) (ltb a (t .machines) && ltb b (t .machines))
+    (cond (eqb code 1) (ltb a (t .entries))
     (cond (eqb code 4) (ltb a (t .machines) && ltb b (t .entries))
-    (ltb a (t .machines) && ltb b (t .machines)))
+    true))
 
 -- the event of a code
 unfoldable pub eventOf : Table → ℕ → ℕ → ℕ → Answer
@@ -50,7 +59,8 @@ eventOf t code a b =
     (cond (eqb code 4) (startOf t a b)
     (cond (eqb code 5) (doneOf t a)
     (cond (eqb code 6) (dieOf t a)
-    (noticeOf t a b))))))
+    (cond (eqb code 7) (noticeOf t a b)
+    (refuse 10 t)))))))
 
 -- 10 and 11, then the event's own refusals: of a table that passes check 9
 unfoldable pub answerOf : Table → List ℕ → Answer

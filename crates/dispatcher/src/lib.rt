@@ -4,28 +4,34 @@ ghost use mathlib.Core.Bool.{true, _&&_, _||_};
 ghost use lib.Dec.{eqb, leb};
 ghost use Rattle.validity.specs.Validity.{tableOk};
 ghost use Rattle.messages.specs.Needs.{Ready};
-ghost use Rattle.dispatcher.specs.Step.{usesSecond, numbered, eventOf, answerOf, stepOf};
+ghost use Rattle.dispatcher.specs.Step.{usesSecond, lastCode, numbered, eventOf, answerOf, stepOf};
 use table::Answer;
 use table::Table;
 
-// Whether the code is 1 to 7, and b is 0 where the event has no use for it.
+// The codes are 1 to this one.
+const LAST_CODE: u8 = 7;
+
+// Whether the code is one of an event, and b is 0 where the event has no use for it.
 fn formed(code: u8, b: u8) -> bool
-    ensures { λ r. ⌜ r ≡ leb 1 code && leb code 7 && (usesSecond code || eqb b 0) ⌝ }
+    ensures { λ r. ⌜ r ≡ leb 1 code && leb code lastCode && (usesSecond code || eqb b 0) ⌝ }
 {
-    (1 <= code) & (code <= 7) & (!((code == 1) | (code == 5) | (code == 6)) | (b == 0))
+    (1 <= code) & (code <= LAST_CODE) & (!((code == 1) | (code == 5) | (code == 6)) | (b == 0))
 }
 
 // Whether the machine and entry numbers of an event are those of the table.
 fn numbered(t: Table, code: u8, a: u8, b: u8) -> bool
     ensures { λ r. ⌜ r ≡ numbered t code a b ⌝ }
 {
+    if (code == 2) | (code == 3) | (code == 5) | (code == 6) | (code == 7) {
+        return (a < t.machines) & (b < t.machines);
+    }
     if code == 1 {
         return a < t.entries;
     }
     if code == 4 {
         return (a < t.machines) & (b < t.entries);
     }
-    (a < t.machines) & (b < t.machines)
+    true
 }
 
 // The number of the event of a code.
@@ -52,7 +58,10 @@ fn event_number(t: Table, code: u8, a: u8, b: u8) -> u8
     if code == 6 {
         return events::die_number(t, a);
     }
-    notice::notice_number(t, a, b)
+    if code == 7 {
+        return notice::notice_number(t, a, b);
+    }
+    10
 }
 
 // The table after the event of a code whose number is 0.
@@ -80,7 +89,10 @@ fn event_table(t: Table, code: u8, a: u8, b: u8) -> Table
     if code == 6 {
         return events::died(t, a);
     }
-    notice::noticed(t, a, b)
+    if code == 7 {
+        return notice::noticed(t, a, b);
+    }
+    t
 }
 
 // The number of one event on a table that passes check 9, which is not tested again: for a run, whose every table passes.

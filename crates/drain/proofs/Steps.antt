@@ -20,7 +20,7 @@ use Rattle.preservation.proofs.Facts.{MessageFacts}
 use Rattle.preservation.proofs.Ok.{passes}
 use Rattle.invariant.proofs.State.{Whole}
 use Rattle.invariant.proofs.Flight.{every-taken}
-use Rattle.dispatcher.specs.Step.{formed, numbered, eventOf, answerOf, stepOf}
+use Rattle.dispatcher.specs.Step.{pair, formed, numbered, eventOf, answerOf, stepOf}
 use Rattle.dispatcher.proofs.Kept.{step-answer}
 
 -- the three bytes of an event
@@ -33,9 +33,9 @@ module _ (t : Table) (w : Whole t) where
   unfolding answerOf
   step-event c a b f n = step-answer t (event c a b) (passes t (w .sized) (w .ok)) ∙ rw (f, n)
 
-  two-machines : (c a b : ℕ) → eqb c 1 ≡ false → eqb c 4 ≡ false → a < t .machines → b < t .machines → numbered t c a b ≡ true
+  two-machines : (c a b : ℕ) → pair c ≡ true → a < t .machines → b < t .machines → numbered t c a b ≡ true
   unfolding numbered
-  two-machines c a b c1 c4 al bl = rw (c1, c4, lt-ltb a (t .machines) al, lt-ltb b (t .machines) bl)
+  two-machines c a b p al bl = rw (p, lt-ltb a (t .machines) al, lt-ltb b (t .machines) bl)
 
   -- ---- Deliver: the first message's own channel has it as its oldest
   oldest-first : 0 < t .«in_flight» → oldest t (messageAt t 0 .from) (messageAt t 0 .to) ≡ 0
@@ -50,7 +50,7 @@ module _ (t : Table) (w : Whole t) where
   accepts-deliver h =
       let x = messageAt t 0 in
       let f : MessageFacts t x = every-taken t 0 (w .sized) h (MessageFacts t) (w .facts .message) .0 in
-      step-event 3 (x .from) (x .to) refl (two-machines 3 (x .from) (x .to) refl refl (f .from-in) (f .to-in))
+      step-event 3 (x .from) (x .to) refl (two-machines 3 (x .from) (x .to) refl (f .from-in) (f .to-in))
       ∙ rw (oldest-first h, lt-leb (t .«in_flight») 0 h)
 
   -- ---- Start
@@ -64,12 +64,12 @@ module _ (t : Table) (w : Whole t) where
   pub accepts-done : (a : ℕ) → a < 16 → nodeAt t a .alive ≡ 1 → nodeAt t a .«running_replica» ≢ 0 → t .«in_flight» < 128 → stepOf t (event 5 a 0) ≡ accept (finished t a)
   unfolding formed eventOf doneOf
   accepts-done a al lives runs room =
-      step-event 5 a 0 refl (two-machines 5 a 0 refl refl (w .facts .machine a al .alive-in lives) (omega (arith, w .facts .machines-some)))
+      step-event 5 a 0 refl (two-machines 5 a 0 refl (w .facts .machine a al .alive-in lives) (omega (arith, w .facts .machines-some)))
       ∙ rw (eq-eqb (nodeAt t a .alive) 1 lives, ne-eqb (nodeAt t a .«running_replica») 0 runs, lt-leb 128 (t .«in_flight») room)
 
   -- ---- Notice to the root
   pub accepts-notice : (b : ℕ) → b < t .machines → nodeAt t b .alive ≢ 1 → toldAt t 0 b ≡ 0 → stepOf t (event 7 0 b) ≡ accept (noticed t 0 b)
   unfolding formed eventOf noticeOf
   accepts-notice b bl gone told =
-      step-event 7 0 b refl (two-machines 7 0 b refl refl (omega (arith, w .facts .machines-some)) bl)
+      step-event 7 0 b refl (two-machines 7 0 b refl (omega (arith, w .facts .machines-some)) bl)
       ∙ rw (eq-eqb (nodeAt t 0 .alive) 1 (w .facts .root), ne-eqb (nodeAt t b .alive) 1 gone, eq-eqb (toldAt t 0 b) 0 told)

@@ -187,18 +187,31 @@ module _ {A : Type 0} (f : Table → A) (h : Fixed f) where
 
 module _ {A : Type 0} (f : Table → A) (h : Fixed f) where
   fixed-kept : (a : A) → Kept (λ t. f t ≡ a)
-  fixed-kept a = record {
-    admits = λ t i e l o. fixed-admitted f h t i ∙ e;
-    steals = λ t i k e la lb v u r. fixed-stolen f h t i k ∙ e;
-    delivers = λ t k e l. fixed-delivered f h t k ∙ e;
-    starts = λ t i k e la lb v n s. fixed-started f h t i k ∙ e;
-    finishes = λ t i e l v n r. fixed-finished f h t i ∙ e;
-    dies = λ t i e l n v. fixed-died f h t i ∙ e;
-    notices = λ t i k e la lb v g u. fixed-noticed f h t i k ∙ e;
+  fixed-kept a t e p = record {
+    admit = λ c d. fixed-admitted f h t _ ∙ p;
+    steal = λ c d. fixed-stolen f h t _ _ ∙ p;
+    deliver = λ c d. fixed-delivered f h t _ ∙ p;
+    start = λ c d. fixed-started f h t _ _ ∙ p;
+    done = λ c d. fixed-finished f h t _ ∙ p;
+    die = λ c d. fixed-died f h t _ ∙ p;
+    notice = λ c d. fixed-noticed f h t _ _ ∙ p;
   }
 
-  pub fixed-step : (t : Table) (e : List ℕ) → f (stepOf t e .table) ≡ f t
+  fixed-step : (t : Table) (e : List ℕ) → f (stepOf t e .table) ≡ f t
   fixed-step t e = by-step (λ u. f u ≡ f t) (fixed-kept (f t)) t refl e
 
-  pub fixed-run : (t : Table) (es : List (List ℕ)) → f (runOf t es) ≡ f t
+  fixed-run : (t : Table) (es : List (List ℕ)) → f (runOf t es) ≡ f t
   fixed-run t es = by-run (λ u. f u ≡ f t) (fixed-kept (f t)) t es refl
+
+-- ---- the terms
+
+-- no event writes them
+fixed-bonds : Fixed (λ t. t .bonds)
+unfolding withJob withNode withPool withTold withMessages
+fixed-bonds = record { job = λ t j v. refl; node = λ t m v. refl; pool = λ t m j r. refl; told = λ t m d r. refl; messages = λ t n l. refl }
+
+pub step-bonds : (t : Table) (e : List ℕ) → stepOf t e .table .bonds ≡ t .bonds
+step-bonds t e = fixed-step (λ u. u .bonds) fixed-bonds t e
+
+pub bond-run : (t : Table) (es : List (List ℕ)) (j : ℕ) → bondAt (runOf t es) j ≡ bondAt t j
+bond-run t es j = fixed-run (λ u. bondAt u j) (fixed-bond j) t es

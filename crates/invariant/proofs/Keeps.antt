@@ -86,14 +86,14 @@ module _ (t : Table) (w : Whole t) where
       (conserved-noticed t a b w h k gone) (trip-noticed t a b w h gone) (side-noticed t a b w h k gone) (prices-noticed t w a b)
 
 pub whole-kept : Kept Whole
-whole-kept = record {
-  admits = λ t a w. whole-admitted t w a;
-  steals = λ t a b w la lb alive untold room. whole-stolen t w a b la lb alive room;
-  delivers = λ t k w. whole-delivered t w k;
-  starts = λ t a b w. whole-started t w a b;
-  finishes = λ t a w. whole-finished t w a;
-  dies = λ t a w l nz alive. whole-died t w a l nz;
-  notices = λ t a b w. whole-noticed t w a b;
+whole-kept t e w = record {
+  admit = λ c d. whole-admitted t w _ (d .entry) (d .new);
+  steal = λ c d. whole-stolen t w _ _ (d .machine) (d .victim) (d .alive) (d .room);
+  deliver = λ c d. whole-delivered t w _ (d .slot);
+  start = λ c d. whole-started t w _ _ (d .machine) (d .entry) (d .alive) (d .idle) (d .pooled);
+  done = λ c d. whole-finished t w _ (d .machine) (d .alive) (d .runs) (d .room);
+  die = λ c d. whole-died t w _ (d .machine) (d .other);
+  notice = λ c d. whole-noticed t w _ _ (d .machine) (d .named) (d .alive) (d .dead) (d .new);
 }
 
 -- any event, accepted or refused

@@ -2,6 +2,7 @@ pub mod Empty
 pub mod Ok
 pub mod Facts
 pub mod Updates
+pub mod Larger
 pub mod Told
 pub mod Passed
 pub mod Sizes

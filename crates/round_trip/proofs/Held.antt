@@ -21,7 +21,7 @@ use Rattle.term.specs.declared.Reading.the-variants.{Faulty, Valid}
 use Rattle.book.specs.Book.{termAt}
 use Rattle.book.specs.Parts.{entryCount, noBond, bondIn, bondAt, bondOf}
 use Rattle.table.specs.declared.Table.{Table}
-use Rattle.table.specs.Views.{noJob, noMachine, noMessage, pastBond, withJob, withNode, withPool, withTold, withMessages}
+use Rattle.table.specs.Views.{noJob, noMachine, noMessage, pastBond}
 use Rattle.table.specs.Views as views
 use Rattle.table.proofs.Long.{Long}
 use Rattle.validity.specs.Validity.{tableOk}
@@ -31,7 +31,7 @@ use Rattle.opening.proofs.Shown.{sized-fresh, bond-fresh}
 use Rattle.dispatcher.specs.Step.{stepOf}
 use Rattle.dispatcher.proofs.Kept.{step-sized}
 use Rattle.run.proofs.Events.{passed-sized}
-use Rattle.invariant.proofs.Fixed.{Fixed as Unwritten, fixed-step}
+use Rattle.invariant.proofs.Fixed.{step-bonds}
 use Rattle.kept_read.specs.Layout.{bondFrom, jobFrom, machineFrom, messageFrom, bondsFrom, jobsFrom, machinesFrom, toldFrom, poolsFrom, messagesFrom, tableFrom}
 use Rattle.round_trip.proofs.Elements.{RatesFit}
 use Rattle.round_trip.proofs.Table.{Held}
@@ -118,21 +118,13 @@ held-fresh s =
 
 -- ---- after an event
 
--- no event writes the terms
-fixed-bonds : Unwritten (λ t. t .bonds)
-unfolding withJob withNode withPool withTold withMessages
-fixed-bonds = record { job = λ t j v. refl; node = λ t m v. refl; pool = λ t m j r. refl; told = λ t m d r. refl; messages = λ t n l. refl }
-
 module _ (t : Table) (e : List ℕ) (h : Held t) where
-  same-bonds : stepOf t e .table .bonds ≡ t .bonds
-  same-bonds = fixed-step (λ u. u .bonds) fixed-bonds t e
-
   passed : tableOk t ≡ true → Held (stepOf t e .table)
   passed k =
       let z = step-sized t e (passed-sized t (h .long) k) in
       record {
-        long = record { bonds = ap length same-bonds ∙ h .long .bonds; jobs = z .jobs; nodes = z .nodes; told = z .told; pools = z .pools; messages = z .messages };
-        rates = λ j l. rw same-bonds (h .rates j l);
+        long = record { bonds = ap length (step-bonds t e) ∙ h .long .bonds; jobs = z .jobs; nodes = z .nodes; told = z .told; pools = z .pools; messages = z .messages };
+        rates = λ j l. rw (step-bonds t e) (h .rates j l);
       }
 
   pub held-step : Held (stepOf t e .table)

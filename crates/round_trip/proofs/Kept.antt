@@ -13,7 +13,7 @@ use Rattle.book.specs.Book.{bookVerdict}
 use Rattle.opening.specs.Opening.{freshOf, openOf}
 use Rattle.opening.proofs.Shown.{opened-table}
 use Rattle.dispatcher.specs.Step.{stepOf, runOf}
-use Rattle.claims.proofs.Runs.{step-refused}
+use Rattle.dispatcher.proofs.Events.{step-refused}
 use Rattle.kept_read.specs.Layout.{formed, tableFrom}
 use Rattle.kept_write.specs.Bytes.{bytesOf}
 use Rattle.kept.specs.Kept.{stepNumber, stepBytes, openNumber, openBytes}

@@ -24,7 +24,7 @@ use Rattle.text.specs.Text.{Written}
 use Rattle.text.proofs.Over.{over-none, then}
 use Rattle.run.specs.declared.Ran.{Ran}
 use Rattle.run.specs.Run.{eventAt, eventCount, eventsIn, refusal, refusals, Listed}
-use Rattle.run.proofs.Numbers.{number-most}
+use Rattle.dispatcher.proofs.Events.{number-most}
 
 -- ---- the line of one event
 
@@ -36,7 +36,7 @@ pub refusal-some : (place n : ℕ) → (n ≡ 0 → ⊥) → eventRefused place 
 unfolding refusal
 refusal-some place n e = rw (ne-eqb n 0 e)
 
-pub refusal-most : (place n : ℕ) → n ≤ 22 → length (refusal place n) ≤ 23
+pub refusal-most : (place n : ℕ) → n ≤ 99 → length (refusal place n) ≤ 23
 unfolding refusal
 refusal-most place n h = byBool (eqb n 0) (λ e. rw (e, refusal) (omega arith)) (λ e. rw (e, refusal) (event-most place n (omega arith)))
 

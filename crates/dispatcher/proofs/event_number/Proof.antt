@@ -1,26 +1,23 @@
 -- `dispatcher::event_number` meets its contract. What refusal 11 tested gives each event its numbers.
 -- Assumes nothing.
 use borrow.Author.Needs.{needs}
-use native.Mathlib.Omega.{arith}
+use Prim.Native.Nat.{ℕ}
+use mathlib.Core.Path.{ap}
 use Rattle.lists.proofs.Rules.{flags}
-use Rattle.dispatcher.proofs.Numbers.{entry-below, machines-below, start-below}
-use Rattle.dispatcher.specs.Step.{eventOf}
+use Rattle.dispatcher.proofs.Numbers.{entry-below, pair-below, start-below}
+use Rattle.dispatcher.specs.Step.{pair, eventOf}
 use Rattle.dispatcher.proofs.event_number.Statement.{statement}
 use Rattle.dispatcher.proofs.event_number.Tie as tie
 
 admit-number-requires : tie.Need-admit-number-requires
-admit-number-requires c κs =
-    let p = c .before .pre in
-    entry-below _ (p .0) _ _ _ (p .1) (c .if1 .taken)
+admit-number-requires c κs = let p = c .before .pre in entry-below _ (p .0) _ _ _ (p .1) (c .if1 .taken)
 
 returns : tie.Need-returns
 unfolding eventOf
 returns c = search flags
 
 steal-number-requires : tie.Need-steal-number-requires
-steal-number-requires c κs =
-    let p = c .before .before .pre in
-    machines-below _ (p .0) _ _ _ (p .1) (c .before .if1 .left) (λ e. omega arith)
+steal-number-requires c κs = let p = c .before .before .pre in pair-below _ (p .0) _ _ _ (p .1) (ap (λ (k : ℕ). pair k) (c .if2 .taken))
 
 returns-2 : tie.Need-returns-2
 unfolding eventOf
@@ -34,40 +31,36 @@ unfolding eventOf
 returns-3 c = search flags
 
 start-number-requires : tie.Need-start-number-requires
-start-number-requires c κs =
-    let p = c .before .before .before .before .pre in
-    start-below _ (p .0) _ _ _ (p .1) (c .if4 .taken)
+start-number-requires c κs = let p = c .before .before .before .before .pre in start-below _ (p .0) _ _ _ (p .1) (c .if4 .taken)
 
 returns-4 : tie.Need-returns-4
 unfolding eventOf
 returns-4 c = search flags
 
 done-number-requires : tie.Need-done-number-requires
-done-number-requires c κs =
-    let p = c .before .before .before .before .before .pre in
-    machines-below _ (p .0) _ _ _ (p .1) (c .before .before .before .before .if1 .left) (c .before .if4 .left) .0
+done-number-requires c κs = let p = c .before .before .before .before .before .pre in pair-below _ (p .0) _ _ _ (p .1) (ap (λ (k : ℕ). pair k) (c .if5 .taken)) .0
 
 returns-5 : tie.Need-returns-5
 unfolding eventOf
 returns-5 c = search flags
 
 die-number-requires : tie.Need-die-number-requires
-die-number-requires c κs =
-    let p = c .before .before .before .before .before .before .pre in
-    machines-below _ (p .0) _ _ _ (p .1) (c .before .before .before .before .before .if1 .left) (c .before .before .if4 .left) .0
+die-number-requires c κs = let p = c .before .before .before .before .before .before .pre in pair-below _ (p .0) _ _ _ (p .1) (ap (λ (k : ℕ). pair k) (c .if6 .taken)) .0
 
 returns-6 : tie.Need-returns-6
 unfolding eventOf
 returns-6 c = search flags
 
 notice-number-requires : tie.Need-notice-number-requires
-notice-number-requires c κs =
-    let p = c .before .before .before .before .before .before .pre in
-    machines-below _ (p .0) _ _ _ (p .1) (c .before .before .before .before .before .if1 .left) (c .before .before .if4 .left)
+notice-number-requires c κs = let p = c .before .before .before .before .before .before .before .pre in pair-below _ (p .0) _ _ _ (p .1) (ap (λ (k : ℕ). pair k) (c .if7 .taken))
 
 returns-7 : tie.Need-returns-7
 unfolding eventOf
 returns-7 c = search flags
+
+returns-8 : tie.Need-returns-8
+unfolding eventOf
+returns-8 c = search flags
 
 pub event-number-spec : {M : Type 1} → statement M
 event-number-spec =
@@ -86,4 +79,5 @@ event-number-spec =
     die-number-requires
     returns-6
     notice-number-requires
-    returns-7)
+    returns-7
+    returns-8)

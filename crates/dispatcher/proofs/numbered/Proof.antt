@@ -1,21 +1,25 @@
 -- `dispatcher::numbered` meets its contract. The tests are those of the definition.
 -- Assumes nothing.
-use Rattle.lists.proofs.Rules.{flags}
+use borrow.Author.Tests.{ne-eqb}
 use Rattle.dispatcher.specs.Step.{numbered}
 use Rattle.dispatcher.proofs.numbered.Statement.{statement}
 use Rattle.dispatcher.proofs.numbered.Tie as tie
 
 returns : tie.Need-returns
 unfolding numbered
-returns c = search flags
+returns c = rw (c .before .before .if1 .taken)
 
 returns-2 : tie.Need-returns-2
 unfolding numbered
-returns-2 c = search flags
+returns-2 c = rw (c .before .if2 .taken)
 
 returns-3 : tie.Need-returns-3
 unfolding numbered
-returns-3 c = search flags
+returns-3 c = rw (c .before .before .if3 .taken)
+
+returns-4 : tie.Need-returns-4
+unfolding numbered
+returns-4 c = rw (c .before .before .if1 .left, ne-eqb _ 1 (c .before .if2 .left), ne-eqb _ 4 (c .if3 .left))
 
 pub numbered-spec : {M : Type 1} → statement M
-numbered-spec = tie.close (tie.spec returns returns-2 returns-3)
+numbered-spec = tie.close (tie.spec returns returns-2 returns-3 returns-4)
