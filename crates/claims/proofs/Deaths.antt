@@ -31,7 +31,9 @@ use Rattle.invariant.proofs.Fixed.{fixed-admitted, fixed-stolen, fixed-delivere
 use Rattle.invariant.proofs.Died.{node-died, node-died-other}
 use Rattle.invariant.proofs.Alive.{alive-admitted, alive-stolen, alive-started, alive-finished, alive-noticed}
 use Rattle.invariant.proofs.Keeps.{whole-step}
+use Rattle.dispatcher.specs.Codes.{ADMIT, STEAL, DELIVER, START, DONE, DIE, NOTICE}
 use Rattle.dispatcher.specs.Step.{codeOf, firstOf, secondOf, stepOf, runOf}
+use Rattle.table.proofs.Refusals.{refused-nonzero}
 use Rattle.dispatcher.proofs.Events.{by-cases}
 use Rattle.events.proofs.Cases.{Dying}
 use Rattle.drain.proofs.Kept.{fixed-machines}
@@ -77,26 +79,26 @@ module _ (t : Table) (w : Whole t) (e : List ℕ) where
   alive-delivered k m l = lighter (pull t k) (messageAt t k) (hand t k w l) .alive m ∙ ap (λ (n : Machine). n .alive) (node-messages t _ _ m)
 
   abbrev Counted : Answer → Type 0
-  Counted x = deaths (x .table) ≡ deaths t + cond (eqb (x .number) 0 && eqb (codeOf e) 6) 1 0
+  Counted x = deaths (x .table) ≡ deaths t + cond (eqb (x .number) 0 && eqb (codeOf e) DIE) 1 0
 
   -- an event of another kind
-  quiet : (u : Table) (k : ℕ) → codeOf e ≡ k → eqb k 6 ≡ false → deaths u ≡ deaths t → Counted (accept u)
+  quiet : (u : Table) (k : ℕ) → codeOf e ≡ k → eqb k DIE ≡ false → deaths u ≡ deaths t → Counted (accept u)
   quiet u k c n same =
-      let z : eqb (codeOf e) 6 ≡ false = ap (λ (i : ℕ). eqb i 6) c ∙ n in
+      let z : eqb (codeOf e) DIE ≡ false = ap (λ (i : ℕ). eqb i DIE) c ∙ n in
       rw z (omega (arith, same))
 
   deaths-step : deaths (stepOf t e .table) ≡ deaths t + cond (kills t e) 1 0
   deaths-step =
       let a = firstOf e in
       let b = secondOf e in
-      by-cases Counted t e (λ n d r. rw (ne-eqb n 0 d) (omega arith)) (record {
-        admit = λ c d. quiet (admitted t a) 1 c refl (deaths-same t _ (fixed-admitted (λ s. s .machines) fixed-machines t a) (alive-admitted t (w .sized) a));
-        steal = λ c d. quiet (stolen t a b) 2 c refl (deaths-same t _ (fixed-stolen (λ s. s .machines) fixed-machines t a b) (λ m. alive-stolen t (w .sized) a b m (machine-16 a (d .machine))));
-        deliver = λ c d. quiet (delivered t (oldest t a b)) 3 c refl (deaths-same t _ (fixed-delivered (λ s. s .machines) fixed-machines t (oldest t a b)) (λ m. alive-delivered (oldest t a b) m (d .slot)));
-        start = λ c d. quiet (started t a b) 4 c refl (deaths-same t _ (fixed-started (λ s. s .machines) fixed-machines t a b) (λ m. alive-started t (w .sized) a b m (machine-16 a (d .machine))));
-        done = λ c d. quiet (finished t a) 5 c refl (deaths-same t _ (fixed-finished (λ s. s .machines) fixed-machines t a) (λ m. alive-finished t (w .sized) a m (machine-16 a (d .machine))));
-        die = λ c d. rw (eq-eqb (codeOf e) 6 c) (deaths-died t a w d);
-        notice = λ c d. quiet (noticed t a b) 7 c refl (deaths-same t _ (fixed-noticed (λ s. s .machines) fixed-machines t a b) (λ m. alive-noticed t (w .sized) a b m (machine-16 a (d .machine))));
+      by-cases Counted t e (λ n r. rw (ne-eqb n 0 (refused-nonzero 9 n (omega arith) r)) (omega arith)) (record {
+        admit = λ c d. quiet (admitted t a) ADMIT c refl (deaths-same t _ (fixed-admitted (λ s. s .machines) fixed-machines t a) (alive-admitted t (w .sized) a));
+        steal = λ c d. quiet (stolen t a b) STEAL c refl (deaths-same t _ (fixed-stolen (λ s. s .machines) fixed-machines t a b) (λ m. alive-stolen t (w .sized) a b m (machine-16 a (d .machine))));
+        deliver = λ c d. quiet (delivered t (oldest t a b)) DELIVER c refl (deaths-same t _ (fixed-delivered (λ s. s .machines) fixed-machines t (oldest t a b)) (λ m. alive-delivered (oldest t a b) m (d .slot)));
+        start = λ c d. quiet (started t a b) START c refl (deaths-same t _ (fixed-started (λ s. s .machines) fixed-machines t a b) (λ m. alive-started t (w .sized) a b m (machine-16 a (d .machine))));
+        done = λ c d. quiet (finished t a) DONE c refl (deaths-same t _ (fixed-finished (λ s. s .machines) fixed-machines t a) (λ m. alive-finished t (w .sized) a m (machine-16 a (d .machine))));
+        die = λ c d. rw (eq-eqb (codeOf e) DIE c) (deaths-died t a w d);
+        notice = λ c d. quiet (noticed t a b) NOTICE c refl (deaths-same t _ (fixed-noticed (λ s. s .machines) fixed-machines t a b) (λ m. alive-noticed t (w .sized) a b m (machine-16 a (d .machine))));
       })
 
 pub deaths-run : (t : Table) (es : List (List ℕ)) → Whole t → deaths (runOf t es) ≡ deaths t + countOf kills t es

@@ -5,18 +5,16 @@ use mathlib.Core.Path.{_≡_, refl, sym, _∙_}
 use mathlib.Core.List.{List, _++_}
 use native.Mathlib.Omega.{arith}
 use Rattle.book.specs.Book.{bookVerdict}
-use Rattle.table.specs.declared.Job.{Job}
 use Rattle.table.specs.declared.Table.{Table}
-use Rattle.table.specs.declared.Answer.{Answer}
 use Rattle.table.specs.Views.{jobAt}
 use Rattle.opening.specs.Opening.{openOf}
 use Rattle.preservation.proofs.Answers.{Valid}
 use Rattle.invariant.proofs.State.{Whole}
 use Rattle.invariant.proofs.Keeps.{whole-run}
 use Rattle.dispatcher.specs.Step.{runOf, answersOf}
-use Rattle.drain.proofs.Reach.{run-append}
+use Rattle.dispatcher.proofs.Runs.{run-append, answers-length}
 use Rattle.claims.specs.Claims.{Demand3, RunsAgree}
-use Rattle.claims.proofs.Runs.{answers-length, answered}
+use Rattle.claims.proofs.Runs.{answered}
 use Rattle.claims.proofs.History.{settled}
 use Rattle.claims.proofs.Shown.{Start, shown}
 use Rattle.claims.proofs.Further.{job-64, further}

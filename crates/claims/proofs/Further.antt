@@ -12,7 +12,6 @@ use lib.ListN.{length, replicate}
 use Rattle.lists.proofs.Cases.{byBool, byEq, and-both}
 use Rattle.table.specs.declared.Job.{Job}
 use Rattle.table.specs.declared.Table.{Table}
-use Rattle.table.specs.declared.Answer.{Answer}
 use Rattle.table.specs.Views.{jobAt}
 use Rattle.invariant.proofs.State.{Whole}
 use Rattle.dispatcher.specs.Step.{stepOf, runOf, answersOf, isFurther}

@@ -8,15 +8,14 @@ use mathlib.Core.List.{List, [], _∷_}
 use native.Mathlib.Omega.{arith}
 use lib.ListN.{getD}
 use Rattle.table.specs.declared.Job.{Job}
-use Rattle.table.specs.declared.Message.{Message}
 use Rattle.table.specs.declared.Table.{Table}
-use Rattle.table.specs.declared.Answer.{Answer}
 use Rattle.table.specs.Views.{jobAt}
 use Rattle.table.specs.Parts.{opened, priced}
 use Rattle.invariant.proofs.State.{Whole}
 use Rattle.dispatcher.specs.Step.{stepOf, runOf}
 use Rattle.claims.specs.History.{countOf, admits, finds, delivers, takenOff, resultsOf, stateAfter}
-use Rattle.claims.proofs.Runs.{run-more, count-more, count-none, results-yes, results-no}
+use Rattle.dispatcher.proofs.Runs.{run-more}
+use Rattle.claims.proofs.Runs.{count-more, count-none, results-yes, results-no}
 use Rattle.invariant.proofs.Keeps.{whole-step}
 use Rattle.claims.proofs.Change.{Change}
 use Rattle.claims.proofs.Change.Change.{admission, pricing, late, finding, other}

@@ -10,7 +10,7 @@ use Rattle.table.specs.declared.Table.{Table}
 use Rattle.opening.specs.Opening.{openOf}
 use Rattle.dispatcher.specs.Step.{runOf, answersOf}
 use Rattle.claims.specs.Claims.{Demand3}
-use Rattle.claims.proofs.Runs.{answers-length, answer-at}
+use Rattle.dispatcher.proofs.Runs.{answers-length, answer-at}
 
 module _ (book : List ℕ) (events : List (List ℕ)) (numbers : List ℕ) (table : Table) (d : Demand3 book events numbers table) where
   abbrev t : Table

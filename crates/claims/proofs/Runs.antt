@@ -1,7 +1,7 @@
 -- Runs: their numbers, what `Answered` says of an event wherever it stands in its list, and one more event at the front.
 -- Assumes nothing.
-use Prim.Native.Nat.{ℕ, suc, _+_}
-use mathlib.Core.Path.{_≡_, refl, sym, ap, _∙_}
+use Prim.Native.Nat.{ℕ, _+_}
+use mathlib.Core.Path.{_≡_, refl, sym, _∙_}
 use mathlib.Core.Logic.{_≢_}
 use mathlib.Core.Bool.{Bool, true, false, cond}
 use mathlib.Core.List.{List, [], _∷_, _++_}
@@ -10,24 +10,10 @@ use Rattle.table.specs.declared.Table.{Table}
 use Rattle.preservation.proofs.Answers.{Valid}
 use Rattle.dispatcher.specs.Step.{stepOf, runOf, answersOf}
 use Rattle.dispatcher.proofs.Kept.{valid-passes, valid-run, step-answer}
+use Rattle.dispatcher.proofs.Runs.{run-append, run-more, answer-at}
 use Rattle.dispatcher.proofs.Events.{answer-9, step-refused}
-use Rattle.drain.proofs.Reach.{run-append}
 use Rattle.claims.specs.History.{countOf, delivers, takenOff, resultsOf}
 use Rattle.claims.specs.Claims.{Answered}
-
-pub run-more : (t : Table) (e : List ℕ) (es : List (List ℕ)) → runOf t (e ∷ es) ≡ runOf (stepOf t e .table) es
-unfolding runOf
-run-more t e es = refl
-
-pub answers-length : (t : Table) (es : List (List ℕ)) → length (answersOf t es) ≡ length es
-unfolding answersOf
-answers-length t [] = refl
-answers-length t (e ∷ es) = ap suc (answers-length (stepOf t e .table) es)
-
-pub answer-at : (t : Table) (es : List (List ℕ)) (e : List ℕ) (fs : List (List ℕ)) → getD (answersOf t (es ++ e ∷ fs)) (length es) 0 ≡ stepOf (runOf t es) e .number
-unfolding runOf answersOf
-answer-at t [] e fs = refl
-answer-at t (d ∷ es) e fs = answer-at (stepOf t d .table) es e fs
 
 step-valid : (t : Table) (e : List ℕ) → Valid t → stepOf t e .number ≢ 9
 step-valid t e v = rw (step-answer t e (valid-passes t v)) (answer-9 t e)

@@ -26,8 +26,10 @@ use Rattle.invariant.proofs.Frame.{job-enter}
 use Rattle.invariant.proofs.Died.{job-died}
 use Rattle.notice.proofs.Parts.{job-quieted}
 use Rattle.invariant.proofs.Reissued.{reissuedJob, job-reissue}
+use Rattle.dispatcher.specs.Codes.{ADMIT, STEAL, DELIVER, START, DONE, DIE, NOTICE}
 use Rattle.dispatcher.specs.Step.{codeOf, firstOf, secondOf, stepOf}
 use Rattle.claims.specs.History.{admits, delivers, finds, takenOff}
+use Rattle.table.proofs.Refusals.{refused-nonzero}
 use Rattle.dispatcher.proofs.Events.{by-cases}
 use Rattle.events.proofs.Cases.{Admitting}
 use Rattle.claims.proofs.Change.{same-job, Change, job-send}
@@ -108,37 +110,37 @@ flags x y z c = rw (x, y, z) c
 module _ (t : Table) (w : Whole t) (e : List ℕ) (j : ℕ) (l : j < 64) where
   abbrev Told : Answer → Type 0
   Told x =
-      Change (eqb (x .number) 0 && (eqb (codeOf e) 1 && eqb (firstOf e) j))
-      (eqb (x .number) 0 && (eqb (codeOf e) 3 && (eqb (takenOff t e .kind) RESULT && eqb (takenOff t e .job) j)))
-      (eqb (x .number) 0 && (eqb (codeOf e) 7 && (eqb (firstOf e) 0 && lost (jobAt t j) (secondOf e))))
+      Change (eqb (x .number) 0 && (eqb (codeOf e) ADMIT && eqb (firstOf e) j))
+      (eqb (x .number) 0 && (eqb (codeOf e) DELIVER && (eqb (takenOff t e .kind) RESULT && eqb (takenOff t e .job) j)))
+      (eqb (x .number) 0 && (eqb (codeOf e) NOTICE && (eqb (firstOf e) 0 && lost (jobAt t j) (secondOf e))))
       (takenOff t e .price) (jobAt t j) (jobAt (x .table) j)
 
   -- an accepted event of another kind writes no job
-  quiet : (u : Table) (k : ℕ) → codeOf e ≡ k → eqb k 1 ≡ false → eqb k 3 ≡ false → eqb k 7 ≡ false → jobAt u j ≡ jobAt t j → Told (accept u)
+  quiet : (u : Table) (k : ℕ) → codeOf e ≡ k → eqb k ADMIT ≡ false → eqb k DELIVER ≡ false → eqb k NOTICE ≡ false → jobAt u j ≡ jobAt t j → Told (accept u)
   quiet u k c n1 n3 n7 same =
-      other (not-code (codeOf e) k 1 _ c n1) (not-code (codeOf e) k 3 _ c n3) (not-code (codeOf e) k 7 _ c n7) (same-job (jobAt t j) (jobAt u j) same)
+      other (not-code (codeOf e) k ADMIT _ c n1) (not-code (codeOf e) k DELIVER _ c n3) (not-code (codeOf e) k NOTICE _ c n7) (same-job (jobAt t j) (jobAt u j) same)
 
-  delivery : codeOf e ≡ 3 → oldest t (firstOf e) (secondOf e) < t .«in_flight» → Told (accept (delivered t (oldest t (firstOf e) (secondOf e))))
+  delivery : codeOf e ≡ DELIVER → oldest t (firstOf e) (secondOf e) < t .«in_flight» → Told (accept (delivered t (oldest t (firstOf e) (secondOf e))))
   delivery c slot =
-      flags (not-code (codeOf e) 3 1 _ c refl) (is-code (codeOf e) 3 _ _ c refl) (not-code (codeOf e) 3 7 _ c refl)
+      flags (not-code (codeOf e) DELIVER ADMIT _ c refl) (is-code (codeOf e) DELIVER _ _ c refl) (not-code (codeOf e) DELIVER NOTICE _ c refl)
       (change-delivered t (oldest t (firstOf e) (secondOf e)) j w slot)
 
-  notice : codeOf e ≡ 7 → Told (accept (noticed t (firstOf e) (secondOf e)))
+  notice : codeOf e ≡ NOTICE → Told (accept (noticed t (firstOf e) (secondOf e)))
   notice c =
-      flags (not-code (codeOf e) 7 1 _ c refl) (not-code (codeOf e) 7 3 _ c refl) (is-code (codeOf e) 7 _ _ c refl)
+      flags (not-code (codeOf e) NOTICE ADMIT _ c refl) (not-code (codeOf e) NOTICE DELIVER _ c refl) (is-code (codeOf e) NOTICE _ _ c refl)
       (change-noticed t w j l (firstOf e) (secondOf e) (takenOff t e .price))
 
   pub change-step : Change (admits j t e) (delivers j t e) (finds j t e) (takenOff t e .price) (jobAt t j) (jobAt (stepOf t e .table) j)
   change-step =
       by-cases Told t e
-      (λ n d r. rw (ne-eqb n 0 d) (other refl refl refl (same-job (jobAt t j) (jobAt t j) refl)))
+      (λ n r. rw (ne-eqb n 0 (refused-nonzero 9 n (omega arith) r)) (other refl refl refl (same-job (jobAt t j) (jobAt t j) refl)))
       (record {
-        admit = λ c d. flags (is-code (codeOf e) 1 _ _ c refl) (not-code (codeOf e) 1 3 _ c refl) (not-code (codeOf e) 1 7 _ c refl)
+        admit = λ c d. flags (is-code (codeOf e) ADMIT _ _ c refl) (not-code (codeOf e) ADMIT DELIVER _ c refl) (not-code (codeOf e) ADMIT NOTICE _ c refl)
             (change-admitted t w j l (firstOf e) (takenOff t e .price) d);
-        steal = λ c d. quiet (stolen t (firstOf e) (secondOf e)) 2 c refl refl refl (job-stolen t j (firstOf e) (secondOf e));
+        steal = λ c d. quiet (stolen t (firstOf e) (secondOf e)) STEAL c refl refl refl (job-stolen t j (firstOf e) (secondOf e));
         deliver = λ c d. delivery c (d .slot);
-        start = λ c d. quiet (started t (firstOf e) (secondOf e)) 4 c refl refl refl (job-started t j (firstOf e) (secondOf e));
-        done = λ c d. quiet (finished t (firstOf e)) 5 c refl refl refl (job-finished t j (firstOf e));
-        die = λ c d. quiet (died t (firstOf e)) 6 c refl refl refl (job-died t (firstOf e) j);
+        start = λ c d. quiet (started t (firstOf e) (secondOf e)) START c refl refl refl (job-started t j (firstOf e) (secondOf e));
+        done = λ c d. quiet (finished t (firstOf e)) DONE c refl refl refl (job-finished t j (firstOf e));
+        die = λ c d. quiet (died t (firstOf e)) DIE c refl refl refl (job-died t (firstOf e) j);
         notice = λ c d. notice c;
       })

@@ -14,6 +14,7 @@ use Rattle.table.specs.Views.{jobAt, messageAt}
 use Rattle.table.specs.Messages.{oldest}
 use Rattle.table.specs.Parts.{RESULT}
 use Rattle.notice.specs.Notice.{lost}
+use Rattle.dispatcher.specs.Codes.{ADMIT, DELIVER, DIE, NOTICE}
 use Rattle.dispatcher.specs.Step.{codeOf, firstOf, secondOf, stepOf, isFurther}
 
 -- "An accepted event returns 0."
@@ -27,15 +28,15 @@ countOf p t (e ∷ es) = cond (p t e) 1 0 + countOf p (stepOf t e .table) es
 
 -- "A bond is admitted once an accepted event 1 has named it."
 abbrev pub admits : ℕ → Table → List ℕ → Bool
-admits j t e = isAccepted t e && (eqb (codeOf e) 1 && eqb (firstOf e) j)
+admits j t e = isAccepted t e && (eqb (codeOf e) ADMIT && eqb (firstOf e) j)
 
 -- "The deaths are the accepted events of code 6."
 abbrev pub kills : Table → List ℕ → Bool
-kills t e = isAccepted t e && eqb (codeOf e) 6
+kills t e = isAccepted t e && eqb (codeOf e) DIE
 
 -- "the root notices that found the job": accepted, and the job is open on the machine told of, or moving from or to it
 abbrev pub finds : ℕ → Table → List ℕ → Bool
-finds j t e = isAccepted t e && (eqb (codeOf e) 7 && (eqb (firstOf e) 0 && lost (jobAt t j) (secondOf e)))
+finds j t e = isAccepted t e && (eqb (codeOf e) NOTICE && (eqb (firstOf e) 0 && lost (jobAt t j) (secondOf e)))
 
 -- the message that Deliver takes off: "the oldest message from a to b"
 abbrev pub takenOff : Table → List ℕ → Message
@@ -43,7 +44,7 @@ takenOff t e = messageAt t (oldest t (firstOf e) (secondOf e))
 
 -- "a RESULT for it has been delivered"
 abbrev pub delivers : ℕ → Table → List ℕ → Bool
-delivers j t e = isAccepted t e && (eqb (codeOf e) 3 && (eqb (takenOff t e .kind) RESULT && eqb (takenOff t e .job) j))
+delivers j t e = isAccepted t e && (eqb (codeOf e) DELIVER && (eqb (takenOff t e .kind) RESULT && eqb (takenOff t e .job) j))
 
 -- the prices of the RESULTs delivered for job j, the first one delivered first
 unfoldable pub resultsOf : ℕ → Table → List (List ℕ) → List ℕ

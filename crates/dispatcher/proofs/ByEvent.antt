@@ -3,7 +3,6 @@
 use mathlib.Core.List.{List, [], _∷_}
 use Prim.Native.Nat.{ℕ}
 use Rattle.table.specs.declared.Table.{Table}
-use Rattle.table.specs.declared.Answer.{Answer}
 use Rattle.dispatcher.proofs.Events.{Arms, by-cases}
 use Rattle.dispatcher.specs.Step.{stepOf, runOf}
 
@@ -12,7 +11,7 @@ abbrev pub Kept : (Table → Type 0) → Type 0
 Kept P = (t : Table) (e : List ℕ) → P t → Arms P t e
 
 pub by-step : (P : Table → Type 0) → Kept P → (t : Table) → P t → (e : List ℕ) → P (stepOf t e .table)
-by-step P keeps t p e = by-cases (λ x. P (x .table)) t e (λ n d r. p) (keeps t e p)
+by-step P keeps t p e = by-cases (λ x. P (x .table)) t e (λ n r. p) (keeps t e p)
 
 pub by-run : (P : Table → Type 0) → Kept P → (t : Table) (es : List (List ℕ)) → P t → P (runOf t es)
 unfolding runOf

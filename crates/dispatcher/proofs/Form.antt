@@ -8,7 +8,8 @@ use borrow.Author.Tests.{le-leb, lt-leb, leb-true}
 use lib.Dec.{eqb, leb}
 use lib.ListN.{length}
 use Rattle.lists.proofs.Cases.{and-left}
-use Rattle.dispatcher.specs.Step.{codeOf, secondOf, usesSecond, lastCode, formed}
+use Rattle.dispatcher.specs.Codes.{lastCode}
+use Rattle.dispatcher.specs.Step.{codeOf, secondOf, usesSecond, formed}
 
 pub formed-short : (e : List ℕ) → length e < 3 → formed e ≡ false
 unfolding formed

@@ -1,6 +1,7 @@
 pub mod Accepted
 pub mod Numbers
 pub mod Events
+pub mod Runs
 pub mod ByEvent
 pub mod Kept
 pub mod Nine

@@ -9,6 +9,7 @@ use lib.Dec.{ltb}
 use Rattle.lists.proofs.Cases.{and-left, and-right}
 use Rattle.table.specs.declared.Table.{Table}
 use Rattle.messages.specs.Needs.{Ready}
+use Rattle.dispatcher.specs.Codes.{ADMIT, START}
 use Rattle.dispatcher.specs.Step.{pair, numbered}
 
 both : (a b m n : ℕ) → ltb a m && ltb b n ≡ true → (a < m) × (b < n)
@@ -19,11 +20,11 @@ module _ (t : Table) (code a b : ℕ) (g : numbered t code a b ≡ true) where
   unfolding numbered
   pair-in e = both a b (t .machines) (t .machines) (rw e at g)
 
-  pub entry-in : code ≡ 1 → a < t .entries
+  pub entry-in : code ≡ ADMIT → a < t .entries
   unfolding numbered
   entry-in e = ltb-true a (t .entries) (rw e at g)
 
-  pub start-in : code ≡ 4 → (a < t .machines) × (b < t .entries)
+  pub start-in : code ≡ START → (a < t .machines) × (b < t .entries)
   unfolding numbered
   start-in e = both a b (t .machines) (t .entries) (rw e at g)
 
@@ -32,8 +33,8 @@ module _ (t : Table) (r : Ready t) (code a b : ℕ) (g : numbered t code a b ≡
   pub pair-below : pair code ≡ true → (a < 16) × (b < 16)
   pair-below e = let h = pair-in t code a b g e in (omega (arith, h .0, r .machines), omega (arith, h .1, r .machines))
 
-  pub entry-below : code ≡ 1 → a < 64
+  pub entry-below : code ≡ ADMIT → a < 64
   entry-below e = let h = entry-in t code a b g e in omega (arith, r .entries)
 
-  pub start-below : code ≡ 4 → (a < 16) × (b < 64)
+  pub start-below : code ≡ START → (a < 16) × (b < 64)
   start-below e = let h = start-in t code a b g e in (omega (arith, h .0, r .machines), omega (arith, h .1, r .entries))

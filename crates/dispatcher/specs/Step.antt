@@ -13,8 +13,13 @@ use Rattle.events.specs.Events.{admitOf, deliverOf, dieOf}
 use Rattle.steal.specs.Steal.{stealOf}
 use Rattle.work.specs.Work.{startOf, doneOf}
 use Rattle.notice.specs.Notice.{noticeOf}
+use Rattle.dispatcher.specs.Codes.{ADMIT, STEAL, DELIVER, START, DONE, DIE, NOTICE, lastCode}
 
 -- "Events are three bytes: code, a, b."
+abbrev pub event : ℕ → ℕ → ℕ → List ℕ
+event code a b = code ∷ a ∷ b ∷ []
+
+-- code, 0 where there is none
 abbrev pub codeOf : List ℕ → ℕ
 codeOf e = getD e 0 0
 
@@ -28,11 +33,7 @@ secondOf e = getD e 2 0
 
 -- Admit, Done and Die have no use for b
 abbrev pub usesSecond : ℕ → Bool
-usesSecond code = not (eqb code 1 || eqb code 5 || eqb code 6)
-
--- the codes are 1 to this one
-abbrev pub lastCode : ℕ
-lastCode = 7
+usesSecond code = not (eqb code ADMIT || eqb code DONE || eqb code DIE)
 
 -- "code not 1 to 7, unused b not 0, or fewer than three bytes": the contrary
 unfoldable pub formed : List ℕ → Bool
@@ -40,26 +41,26 @@ formed e = leb 3 (length e) && leb 1 (codeOf e) && leb (codeOf e) lastCode && (u
 
 -- Steal, Deliver, Done, Die and Notice: a and b are machine numbers; an unused b is 0 here, and machine 0 is there
 abbrev pub pair : ℕ → Bool
-pair code = eqb code 2 || eqb code 3 || eqb code 5 || eqb code 6 || eqb code 7
+pair code = eqb code STEAL || eqb code DELIVER || eqb code DONE || eqb code DIE || eqb code NOTICE
 
 -- "machine or entry number too large": the contrary. Admit's a and Start's b are entry numbers
 unfoldable pub numbered : Table → ℕ → ℕ → ℕ → Bool
 numbered t code a b =
     cond (pair code) (ltb a (t .machines) && ltb b (t .machines))
-    (cond (eqb code 1) (ltb a (t .entries))
-    (cond (eqb code 4) (ltb a (t .machines) && ltb b (t .entries))
+    (cond (eqb code ADMIT) (ltb a (t .entries))
+    (cond (eqb code START) (ltb a (t .machines) && ltb b (t .entries))
     true))
 
 -- the event of a code
 unfoldable pub eventOf : Table → ℕ → ℕ → ℕ → Answer
 eventOf t code a b =
-    cond (eqb code 1) (admitOf t a)
-    (cond (eqb code 2) (stealOf t a b)
-    (cond (eqb code 3) (deliverOf t a b)
-    (cond (eqb code 4) (startOf t a b)
-    (cond (eqb code 5) (doneOf t a)
-    (cond (eqb code 6) (dieOf t a)
-    (cond (eqb code 7) (noticeOf t a b)
+    cond (eqb code ADMIT) (admitOf t a)
+    (cond (eqb code STEAL) (stealOf t a b)
+    (cond (eqb code DELIVER) (deliverOf t a b)
+    (cond (eqb code START) (startOf t a b)
+    (cond (eqb code DONE) (doneOf t a)
+    (cond (eqb code DIE) (dieOf t a)
+    (cond (eqb code NOTICE) (noticeOf t a b)
     (refuse 10 t)))))))
 
 -- 10 and 11, then the event's own refusals: of a table that passes check 9
@@ -85,4 +86,4 @@ answersOf t (e ∷ es) = stepOf t e .number ∷ answersOf (stepOf t e .table) es
 
 -- "further .. events (no admission, steal or death)": three bytes, a Deliver, Start, Done or Notice
 abbrev pub isFurther : List ℕ → Bool
-isFurther e = eqb (length e) 3 && (eqb (codeOf e) 3 || (eqb (codeOf e) 4 || (eqb (codeOf e) 5 || eqb (codeOf e) 7)))
+isFurther e = eqb (length e) 3 && (eqb (codeOf e) DELIVER || (eqb (codeOf e) START || (eqb (codeOf e) DONE || eqb (codeOf e) NOTICE)))

@@ -4,31 +4,47 @@ ghost use mathlib.Core.Bool.{true, _&&_, _||_};
 ghost use lib.Dec.{eqb, leb};
 ghost use Rattle.validity.specs.Validity.{tableOk};
 ghost use Rattle.messages.specs.Needs.{Ready};
-ghost use Rattle.dispatcher.specs.Step.{usesSecond, lastCode, numbered, eventOf, answerOf, stepOf};
+ghost use Rattle.dispatcher.specs.Codes.{lastCode};
+ghost use Rattle.dispatcher.specs.Step.{usesSecond, numbered, eventOf, answerOf, stepOf};
 use table::Answer;
 use table::Table;
 
+// The codes of the events.
+const ADMIT: u8 = 1;
+
+const STEAL: u8 = 2;
+
+const DELIVER: u8 = 3;
+
+const START: u8 = 4;
+
+const DONE: u8 = 5;
+
+const DIE: u8 = 6;
+
+const NOTICE: u8 = 7;
+
 // The codes are 1 to this one.
-const LAST_CODE: u8 = 7;
+const LAST_CODE: u8 = NOTICE;
 
 // Whether the code is one of an event, and b is 0 where the event has no use for it.
 fn formed(code: u8, b: u8) -> bool
     ensures { λ r. ⌜ r ≡ leb 1 code && leb code lastCode && (usesSecond code || eqb b 0) ⌝ }
 {
-    (1 <= code) & (code <= LAST_CODE) & (!((code == 1) | (code == 5) | (code == 6)) | (b == 0))
+    (1 <= code) & (code <= LAST_CODE) & (!((code == ADMIT) | (code == DONE) | (code == DIE)) | (b == 0))
 }
 
 // Whether the machine and entry numbers of an event are those of the table.
 fn numbered(t: Table, code: u8, a: u8, b: u8) -> bool
     ensures { λ r. ⌜ r ≡ numbered t code a b ⌝ }
 {
-    if (code == 2) | (code == 3) | (code == 5) | (code == 6) | (code == 7) {
+    if (code == STEAL) | (code == DELIVER) | (code == DONE) | (code == DIE) | (code == NOTICE) {
         return (a < t.machines) & (b < t.machines);
     }
-    if code == 1 {
+    if code == ADMIT {
         return a < t.entries;
     }
-    if code == 4 {
+    if code == START {
         return (a < t.machines) & (b < t.entries);
     }
     true
@@ -40,25 +56,25 @@ fn event_number(t: Table, code: u8, a: u8, b: u8) -> u8
     requires { ⌜ numbered t code a b ≡ true ⌝ }
     ensures { λ r. ⌜ r ≡ eventOf t code a b .number ⌝ }
 {
-    if code == 1 {
+    if code == ADMIT {
         return events::admit_number(t, a);
     }
-    if code == 2 {
+    if code == STEAL {
         return steal::steal_number(t, a, b);
     }
-    if code == 3 {
+    if code == DELIVER {
         return events::deliver_number(t, a, b);
     }
-    if code == 4 {
+    if code == START {
         return work::start_number(t, a, b);
     }
-    if code == 5 {
+    if code == DONE {
         return work::done_number(t, a);
     }
-    if code == 6 {
+    if code == DIE {
         return events::die_number(t, a);
     }
-    if code == 7 {
+    if code == NOTICE {
         return notice::notice_number(t, a, b);
     }
     10
@@ -71,25 +87,25 @@ fn event_table(t: Table, code: u8, a: u8, b: u8) -> Table
     requires { ⌜ eventOf t code a b .number ≡ 0 ⌝ }
     ensures { λ r. ⌜ r ≡ eventOf t code a b .table ⌝ }
 {
-    if code == 1 {
+    if code == ADMIT {
         return events::admitted(t, a);
     }
-    if code == 2 {
+    if code == STEAL {
         return steal::stolen(t, a, b);
     }
-    if code == 3 {
+    if code == DELIVER {
         return events::delivered(t, a, b);
     }
-    if code == 4 {
+    if code == START {
         return work::started(t, a, b);
     }
-    if code == 5 {
+    if code == DONE {
         return work::finished(t, a);
     }
-    if code == 6 {
+    if code == DIE {
         return events::died(t, a);
     }
-    if code == 7 {
+    if code == NOTICE {
         return notice::noticed(t, a, b);
     }
     t

@@ -20,9 +20,10 @@ use Rattle.lists.proofs.Cases.{byEq}
 use Rattle.invariant.proofs.State.{Whole}
 use Rattle.invariant.proofs.Hand.{hand}
 use Rattle.invariant.proofs.Fixed.{fixed-delivered}
-use Rattle.dispatcher.specs.Step.{stepOf}
+use Rattle.dispatcher.specs.Codes.{DELIVER}
+use Rattle.dispatcher.specs.Step.{event, stepOf}
 use Rattle.drain.proofs.Reach.{Reach, reach-here, reach-step}
-use Rattle.drain.proofs.Steps.{event, accepts-deliver}
+use Rattle.drain.proofs.Steps.{accepts-deliver}
 use Rattle.drain.proofs.Kept.{kept, fixed-machines}
 use Rattle.drain.proofs.Weights.{weight, weightOf, weight-range, weight-most, Lighter, lighter}
 
@@ -81,9 +82,9 @@ deliveries (suc n) t w i h =
     let some : 0 < t .«in_flight» = omega arith in
     let x = messageAt t 0 in
     let u = delivered t 0 in
-    let step : stepOf t (event 3 (x .from) (x .to)) ≡ accept u = accepts-deliver t w some in
-    reach-step Quiet t u (event 3 (x .from) (x .to)) n step refl
-    (deliveries n u (kept t u (event 3 (x .from) (x .to)) w step) (next-informed t w some i) (omega (arith, next-lighter t w some))))
+    let step : stepOf t (event DELIVER (x .from) (x .to)) ≡ accept u = accepts-deliver t w some in
+    reach-step Quiet t u (event DELIVER (x .from) (x .to)) n step refl
+    (deliveries n u (kept t u (event DELIVER (x .from) (x .to)) w step) (next-informed t w some i) (omega (arith, next-lighter t w some))))
 
 pub deliveries-640 : (t : Table) → Whole t → Informed t → Reach Quiet t 640
 deliveries-640 t w i = deliveries 640 t w i (omega (arith, weight-most (flight t), length-flight t (w .sized), w .sized .used))

@@ -16,9 +16,10 @@ use Rattle.lists.proofs.Cases.{byEq}
 use Rattle.invariant.proofs.State.{Whole}
 use Rattle.invariant.proofs.Alive.{alive-started}
 use Rattle.invariant.proofs.Fixed.{fixed-started}
-use Rattle.dispatcher.specs.Step.{stepOf}
+use Rattle.dispatcher.specs.Codes.{START}
+use Rattle.dispatcher.specs.Step.{event, stepOf}
 use Rattle.drain.proofs.Reach.{Reach, reach-here, reach-step, reach-map, reach-loop}
-use Rattle.drain.proofs.Steps.{event, accepts-start}
+use Rattle.drain.proofs.Steps.{accepts-start}
 use Rattle.drain.proofs.Kept.{kept, fixed-machines}
 use Rattle.drain.proofs.Deliveries.{Quiet, informed-same}
 use Rattle.drain.proofs.Results.{Finished, finishes}
@@ -86,9 +87,9 @@ shut-open k t kl h o =
     let c : Pooled t k a = settled t q (h .resting .rests) k kl o in
     let v = started t a k in
     let z = w .sized in
-    let step : stepOf t (event 4 a k) ≡ accept v = accepts-start t w a k al kl (c .lives) (h .resting .rests a al) (c .there) in
+    let step : stepOf t (event START a k) ≡ accept v = accepts-start t w a k al kl (c .lives) (h .resting .rests a al) (c .there) in
     let runs = start-runs t a k z al in
-    reach-step (Shut (suc k)) t v (event 4 a k) 2 step refl
+    reach-step (Shut (suc k)) t v (event START a k) 2 step refl
     (reach-map (Shut (suc k)) (Finished v a) v 2
     (λ u f. record {
       resting = record {
@@ -99,7 +100,7 @@ shut-open k t kl h o =
           (λ d e. f .shut (ap (λ (i : ℕ). jobAt u i .state) (runs .0 ∙ sym d) ∙ e))
           (λ d e. h .shut j (omega arith) (sym (ap (λ (b : Job). b .state) (f .jobs j (λ p. d (p ∙ runs .0)) ∙ start-job t a k z al j)) ∙ e));
     })
-    (finishes v a (start-quiet t a k z al (kept t v (event 4 a k) w step) q) al (λ e. c .there (sym (runs .1) ∙ e))))
+    (finishes v a (start-quiet t a k z al (kept t v (event START a k) w step) q) al (λ e. c .there (sym (runs .1) ∙ e))))
 
 shut-one : (k : ℕ) (t : Table) → k < 64 → Shut k t → Reach (Shut (suc k)) t 3
 shut-one k t kl h =

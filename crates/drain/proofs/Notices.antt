@@ -6,7 +6,6 @@ use Prim.Native.Nat.{ℕ, suc, _≤_, _<_}
 use native.Mathlib.Omega.{arith}
 use lib.Dec.{ltb}
 use borrow.Author.Tests.{ltb-true, ltb-false}
-use Rattle.table.specs.declared.Machine.{Machine}
 use Rattle.table.specs.declared.Table.{Table}
 use Rattle.table.specs.Views.{nodeAt, toldAt}
 use Rattle.table.specs.Parts.{accept}
@@ -17,9 +16,10 @@ use Rattle.invariant.proofs.Fixed.{fixed-noticed}
 use Rattle.invariant.proofs.Quieted.{told-quieted, told-quieted-other}
 use Rattle.invariant.proofs.Alive.{alive-noticed}
 use Rattle.invariant.proofs.Reissued.{told-reissue}
-use Rattle.dispatcher.specs.Step.{stepOf}
+use Rattle.dispatcher.specs.Codes.{NOTICE}
+use Rattle.dispatcher.specs.Step.{event, stepOf}
 use Rattle.drain.proofs.Reach.{Reach, reach-here, reach-step, reach-loop}
-use Rattle.drain.proofs.Steps.{event, accepts-notice}
+use Rattle.drain.proofs.Steps.{accepts-notice}
 use Rattle.drain.proofs.Kept.{kept, fixed-machines}
 
 -- ---- the table after a notice to the root
@@ -54,11 +54,11 @@ one k t kl h =
     (λ gone. byEq (toldAt t 0 b) 0
     (λ e.
     let u = noticed t 0 b in
-    let step : stepOf t (event 7 0 b) ≡ accept u = accepts-notice t w b bl gone e in
+    let step : stepOf t (event NOTICE 0 b) ≡ accept u = accepts-notice t w b bl gone e in
     let same : u .machines ≡ t .machines = fixed-noticed (λ v. v .machines) fixed-machines t 0 b in
-    reach-step (Told (suc k)) t u (event 7 0 b) 0 step refl
+    reach-step (Told (suc k)) t u (event NOTICE 0 b) 0 step refl
     (reach-here (Told (suc k)) u 0 (record {
-      whole = kept t u (event 7 0 b) w step;
+      whole = kept t u (event NOTICE 0 b) w step;
       told = λ d l m g. byEq d b
           (λ q. rw (q, told-noticed t b w (omega arith)) (λ z. omega arith))
           (λ q. rw (told-noticed-other t b w d (omega arith) (omega arith) q) (h .told d (omega arith) (omega arith) (λ a. g (alive-noticed t (h .whole .sized) 0 b d (omega arith) ∙ a))));

@@ -1,7 +1,7 @@
 -- "A list of at most n further events, each answered 0 and each a Deliver, Start, Done or Notice, leads from t to a table of which P holds": put together
 -- from parts.
 -- Assumes nothing.
-use mathlib.Core.Path.{_≡_, refl, ap}
+use mathlib.Core.Path.{_≡_, ap}
 use mathlib.Core.Bool.{true}
 use mathlib.Core.List.{List, [], _∷_, _++_}
 use Prim.Native.Nat.{ℕ, zero, suc, _+_, _*_, _≤_, _<_}
@@ -12,6 +12,7 @@ use Rattle.table.specs.declared.Table.{Table}
 use Rattle.table.specs.declared.Answer.{Answer}
 use Rattle.table.specs.Parts.{accept}
 use Rattle.dispatcher.specs.Step.{stepOf, runOf, isFurther}
+use Rattle.dispatcher.proofs.Runs.{run-append}
 
 -- each event is a further one and is answered 0
 abbrev pub Accepted : Table → List (List ℕ) → Type 0
@@ -25,11 +26,6 @@ pub record Reach (P : Table → Type 0) (t : Table) (n : ℕ) : Type 0 where
   pub there : P (runOf t events)
 
 -- ---- one list after another
-
-pub run-append : (t : Table) (es fs : List (List ℕ)) → runOf t (es ++ fs) ≡ runOf (runOf t es) fs
-unfolding runOf
-run-append t [] fs = refl
-run-append t (e ∷ es) fs = run-append (stepOf t e .table) es fs
 
 pub accepted-append : (t : Table) (es fs : List (List ℕ)) → Accepted t es → Accepted (runOf t es) fs → Accepted t (es ++ fs)
 unfolding runOf

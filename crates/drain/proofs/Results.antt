@@ -28,9 +28,10 @@ use Rattle.preservation.proofs.Sizes.{used-pull}
 use Rattle.invariant.proofs.State.{Whole}
 use Rattle.invariant.proofs.About.{alive-running}
 use Rattle.invariant.proofs.Fixed.{fixed-delivered, fixed-finished}
-use Rattle.dispatcher.specs.Step.{stepOf}
+use Rattle.dispatcher.specs.Codes.{DELIVER, DONE}
+use Rattle.dispatcher.specs.Step.{event, stepOf}
 use Rattle.drain.proofs.Reach.{Reach, reach-here, reach-step}
-use Rattle.drain.proofs.Steps.{event, accepts-deliver, accepts-done}
+use Rattle.drain.proofs.Steps.{accepts-deliver, accepts-done}
 use Rattle.drain.proofs.Kept.{kept, fixed-machines}
 use Rattle.drain.proofs.Deliveries.{Quiet, informed-same, flight-empty}
 
@@ -178,11 +179,11 @@ module _ (t : Table) (a : ℕ) (q : Quiet t) (al : a < 16) (runs : nodeAt t a .�
 pub finishes : (t : Table) (a : ℕ) → Quiet t → a < 16 → nodeAt t a .«running_replica» ≢ 0 → Reach (Finished t a) t 2
 finishes t a q al runs =
     let p = finished t a in
-    let step : stepOf t (event 5 a 0) ≡ accept p = accepts-done t (q .whole) a al (lives t a q al runs) runs (omega (arith, q .empty)) in
-    let w : Whole p = kept t p (event 5 a 0) (q .whole) step in
+    let step : stepOf t (event DONE a 0) ≡ accept p = accepts-done t (q .whole) a al (lives t a q al runs) runs (omega (arith, q .empty)) in
+    let w : Whole p = kept t p (event DONE a 0) (q .whole) step in
     let x = messageAt p 0 in
     let u = delivered p 0 in
-    let next : stepOf p (event 3 (x .from) (x .to)) ≡ accept u = accepts-deliver p w (omega (arith, p-used t a q al runs w)) in
-    reach-step (Finished t a) t p (event 5 a 0) 1 step refl
-    (reach-step (Finished t a) p u (event 3 (x .from) (x .to)) 0 next refl
-    (reach-here (Finished t a) u 0 (u-finished t a q al runs w (kept p u (event 3 (x .from) (x .to)) w next))))
+    let next : stepOf p (event DELIVER (x .from) (x .to)) ≡ accept u = accepts-deliver p w (omega (arith, p-used t a q al runs w)) in
+    reach-step (Finished t a) t p (event DONE a 0) 1 step refl
+    (reach-step (Finished t a) p u (event DELIVER (x .from) (x .to)) 0 next refl
+    (reach-here (Finished t a) u 0 (u-finished t a q al runs w (kept p u (event DELIVER (x .from) (x .to)) w next))))

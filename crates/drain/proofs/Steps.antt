@@ -2,11 +2,9 @@
 -- Assumes nothing.
 use mathlib.Core.Path.{_≡_, refl, _∙_}
 use mathlib.Core.Logic.{_≢_}
-use mathlib.Core.Bool.{Bool, true, false}
-use mathlib.Core.List.{List, [], _∷_}
+use mathlib.Core.Bool.{Bool, true}
 use Prim.Native.Nat.{ℕ, _<_}
 use native.Mathlib.Omega.{arith}
-use lib.Dec.{eqb}
 use borrow.Author.Tests.{eq-eqb, ne-eqb, lt-ltb, lt-leb}
 use Rattle.table.specs.declared.Table.{Table}
 use Rattle.table.specs.Views.{nodeAt, poolAt, toldAt, messageAt}
@@ -20,12 +18,9 @@ use Rattle.preservation.proofs.Facts.{MessageFacts}
 use Rattle.preservation.proofs.Ok.{passes}
 use Rattle.invariant.proofs.State.{Whole}
 use Rattle.invariant.proofs.Flight.{every-taken}
-use Rattle.dispatcher.specs.Step.{pair, formed, numbered, eventOf, answerOf, stepOf}
+use Rattle.dispatcher.specs.Codes.{DELIVER, START, DONE, NOTICE}
+use Rattle.dispatcher.specs.Step.{event, pair, formed, numbered, eventOf, answerOf, stepOf}
 use Rattle.dispatcher.proofs.Kept.{step-answer}
-
--- the three bytes of an event
-abbrev pub event : ℕ → ℕ → ℕ → List ℕ
-event c a b = c ∷ a ∷ b ∷ []
 
 module _ (t : Table) (w : Whole t) where
   -- past 9, 10 and 11
@@ -45,31 +40,31 @@ module _ (t : Table) (w : Whole t) where
       let p : ℕ → Bool = λ i. chan (x .from) (x .to) (messageAt t i) in
       least-found p (t .«in_flight») 0 h (least-none p) (rw (eq-eqb (x .from) (x .from) refl, eq-eqb (x .to) (x .to) refl))
 
-  pub accepts-deliver : 0 < t .«in_flight» → stepOf t (event 3 (messageAt t 0 .from) (messageAt t 0 .to)) ≡ accept (delivered t 0)
+  pub accepts-deliver : 0 < t .«in_flight» → stepOf t (event DELIVER (messageAt t 0 .from) (messageAt t 0 .to)) ≡ accept (delivered t 0)
   unfolding formed eventOf deliverOf
   accepts-deliver h =
       let x = messageAt t 0 in
       let f : MessageFacts t x = every-taken t 0 (w .sized) h (MessageFacts t) (w .facts .message) .0 in
-      step-event 3 (x .from) (x .to) refl (two-machines 3 (x .from) (x .to) refl (f .from-in) (f .to-in))
+      step-event DELIVER (x .from) (x .to) refl (two-machines DELIVER (x .from) (x .to) refl (f .from-in) (f .to-in))
       ∙ rw (oldest-first h, lt-leb (t .«in_flight») 0 h)
 
   -- ---- Start
-  pub accepts-start : (a b : ℕ) → a < 16 → b < 64 → nodeAt t a .alive ≡ 1 → nodeAt t a .«running_replica» ≡ 0 → poolAt t a b ≢ 0 → stepOf t (event 4 a b) ≡ accept (started t a b)
+  pub accepts-start : (a b : ℕ) → a < 16 → b < 64 → nodeAt t a .alive ≡ 1 → nodeAt t a .«running_replica» ≡ 0 → poolAt t a b ≢ 0 → stepOf t (event START a b) ≡ accept (started t a b)
   unfolding formed numbered eventOf startOf
   accepts-start a b al bl lives free there =
-      step-event 4 a b refl (rw (lt-ltb a (t .machines) (w .facts .machine a al .alive-in lives), lt-ltb b (t .entries) (w .facts .pool-entry a b al bl there)))
+      step-event START a b refl (rw (lt-ltb a (t .machines) (w .facts .machine a al .alive-in lives), lt-ltb b (t .entries) (w .facts .pool-entry a b al bl there)))
       ∙ rw (eq-eqb (nodeAt t a .alive) 1 lives, eq-eqb (nodeAt t a .«running_replica») 0 free, ne-eqb (poolAt t a b) 0 there)
 
   -- ---- Done
-  pub accepts-done : (a : ℕ) → a < 16 → nodeAt t a .alive ≡ 1 → nodeAt t a .«running_replica» ≢ 0 → t .«in_flight» < 128 → stepOf t (event 5 a 0) ≡ accept (finished t a)
+  pub accepts-done : (a : ℕ) → a < 16 → nodeAt t a .alive ≡ 1 → nodeAt t a .«running_replica» ≢ 0 → t .«in_flight» < 128 → stepOf t (event DONE a 0) ≡ accept (finished t a)
   unfolding formed eventOf doneOf
   accepts-done a al lives runs room =
-      step-event 5 a 0 refl (two-machines 5 a 0 refl (w .facts .machine a al .alive-in lives) (omega (arith, w .facts .machines-some)))
+      step-event DONE a 0 refl (two-machines DONE a 0 refl (w .facts .machine a al .alive-in lives) (omega (arith, w .facts .machines-some)))
       ∙ rw (eq-eqb (nodeAt t a .alive) 1 lives, ne-eqb (nodeAt t a .«running_replica») 0 runs, lt-leb 128 (t .«in_flight») room)
 
   -- ---- Notice to the root
-  pub accepts-notice : (b : ℕ) → b < t .machines → nodeAt t b .alive ≢ 1 → toldAt t 0 b ≡ 0 → stepOf t (event 7 0 b) ≡ accept (noticed t 0 b)
+  pub accepts-notice : (b : ℕ) → b < t .machines → nodeAt t b .alive ≢ 1 → toldAt t 0 b ≡ 0 → stepOf t (event NOTICE 0 b) ≡ accept (noticed t 0 b)
   unfolding formed eventOf noticeOf
   accepts-notice b bl gone told =
-      step-event 7 0 b refl (two-machines 7 0 b refl (omega (arith, w .facts .machines-some)) bl)
+      step-event NOTICE 0 b refl (two-machines NOTICE 0 b refl (omega (arith, w .facts .machines-some)) bl)
       ∙ rw (eq-eqb (nodeAt t 0 .alive) 1 (w .facts .root), ne-eqb (nodeAt t b .alive) 1 gone, eq-eqb (toldAt t 0 b) 0 told)

@@ -16,7 +16,8 @@ use Rattle.table.specs.declared.Answer.{Answer}
 use Rattle.table.specs.Views.{jobAt, toldAt, flight}
 use Rattle.table.specs.Parts.{opened, message, REQ, DENIED, ACK}
 use Rattle.opening.specs.Opening.{openOf}
-use Rattle.dispatcher.specs.Step.{runOf, answersOf}
+use Rattle.dispatcher.specs.Codes.{ADMIT, STEAL, DELIVER, DIE, NOTICE}
+use Rattle.dispatcher.specs.Step.{event, runOf, answersOf}
 
 -- what a row speaks of
 pub data Outcome : Type 0 where
@@ -85,30 +86,27 @@ book = bookWith 3 2
 abbrev pub fresh : Table
 fresh = openOf book .table
 
-abbrev pub event : ℕ → ℕ → ℕ → List ℕ
-event code a b = code ∷ a ∷ b ∷ []
-
 -- every one of these events is answered 0
 abbrev pub allAccepted : List (List ℕ) → List ℕ
 allAccepted es = replicate (length es) 0
 
 -- machine 2 steals from the root, dies, and the root is told; the root's REQ for machine 2 is still in flight, from the root to itself
 abbrev pub beforeReq : List (List ℕ)
-beforeReq = event 1 0 0 ∷ event 2 2 0 ∷ event 3 2 0 ∷ event 6 2 0 ∷ event 7 0 2 ∷ []
+beforeReq = event ADMIT 0 0 ∷ event STEAL 2 0 ∷ event DELIVER 2 0 ∷ event DIE 2 0 ∷ event NOTICE 0 2 ∷ []
 
 -- and it is delivered
 abbrev pub deadThief : List (List ℕ)
-deadThief = beforeReq ++ event 3 0 0 ∷ []
+deadThief = beforeReq ++ event DELIVER 0 0 ∷ []
 
 -- machine 1 steals the job from the root, and machine 2 from machine 1; machine 1 dies and the root is told before the ACK of machine 2 comes
 abbrev pub beforeAck : List (List ℕ)
 beforeAck =
-    event 1 0 0 ∷ event 2 1 0 ∷ event 3 1 0 ∷ event 3 0 0 ∷ event 3 0 0 ∷ event 3 0 1 ∷ event 3 1 0
-    ∷ event 2 2 1 ∷ event 3 2 1 ∷ event 3 1 0 ∷ event 3 0 1 ∷ event 3 1 2 ∷ event 6 1 0 ∷ event 7 0 1 ∷ []
+    event ADMIT 0 0 ∷ event STEAL 1 0 ∷ event DELIVER 1 0 ∷ event DELIVER 0 0 ∷ event DELIVER 0 0 ∷ event DELIVER 0 1 ∷ event DELIVER 1 0
+    ∷ event STEAL 2 1 ∷ event DELIVER 2 1 ∷ event DELIVER 1 0 ∷ event DELIVER 0 1 ∷ event DELIVER 1 2 ∷ event DIE 1 0 ∷ event NOTICE 0 1 ∷ []
 
 -- and it comes
 abbrev pub lateAck : List (List ℕ)
-lateAck = beforeAck ++ event 3 2 0 ∷ []
+lateAck = beforeAck ++ event DELIVER 2 0 ∷ []
 
 -- ---- the rows
 

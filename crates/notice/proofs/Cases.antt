@@ -3,15 +3,14 @@
 use Prim.Native.Nat.{ℕ, _<_}
 use mathlib.Core.Path.{_≡_, refl}
 use mathlib.Core.Logic.{_≢_}
-use mathlib.Core.Bool.{true, not, _&&_}
-use native.Mathlib.Omega.{arith}
+use mathlib.Core.Bool.{not}
 use borrow.Author.Tests.{eqb-true, eqb-false, not-false}
-use lib.Dec.{eqb, leb}
+use lib.Dec.{eqb}
 use Rattle.lists.proofs.Cases.{byBool}
 use Rattle.table.specs.declared.Table.{Table}
-use Rattle.table.specs.declared.Answer.{Answer}
-use Rattle.table.specs.Views.{nodeAt, toldAt, refuse}
-use Rattle.table.specs.Parts.{lives, accept}
+use Rattle.table.specs.Views.{nodeAt, toldAt}
+use Rattle.table.specs.Parts.{lives}
+use Rattle.table.proofs.Refusals.{Judged}
 use Rattle.notice.specs.Notice.{noticed, noticeOf}
 
 pub record Noticing (t : Table) (a b : ℕ) : Type 0 where
@@ -22,14 +21,11 @@ pub record Noticing (t : Table) (a b : ℕ) : Type 0 where
   pub new : toldAt t a b ≡ 0
 
 module _ (t : Table) (a b : ℕ) (h : a < t .machines) (k : b < t .machines) where
-  pub by-notice : (P : Answer → Type 0) → ((n : ℕ) → n ≢ 0 → leb 10 n && leb n 99 ≡ true → P (refuse n t)) → (Noticing t a b → P (accept (noticed t a b))) → P (noticeOf t a b)
+  pub by-notice : Judged t (Noticing t a b) (noticed t a b) (noticeOf t a b)
   unfolding noticeOf
   by-notice P refused f =
-      byBool (not (lives t a)) (λ e. rw (e, noticeOf) (refused 12 (λ z. omega arith) refl))
-      (λ e1. byBool (lives t b) (λ e. rw (e1, e, noticeOf) (refused 21 (λ z. omega arith) refl))
-      (λ e2. byBool (not (eqb (toldAt t a b) 0)) (λ e. rw (e1, e2, e, noticeOf) (refused 22 (λ z. omega arith) refl))
+      byBool (not (lives t a)) (λ e. rw (e, noticeOf) (refused 12 refl))
+      (λ e1. byBool (lives t b) (λ e. rw (e1, e, noticeOf) (refused 21 refl))
+      (λ e2. byBool (not (eqb (toldAt t a b) 0)) (λ e. rw (e1, e2, e, noticeOf) (refused 22 refl))
       (λ e3. rw (e1, e2, e3, noticeOf)
       (f (record { machine = h; named = k; alive = eqb-true _ 1 (not-false (lives t a) e1); dead = eqb-false (nodeAt t b .alive) 1 e2; new = eqb-true (toldAt t a b) 0 (not-false _ e3) })))))
-
-  pub notice-accepted : noticeOf t a b .number ≡ 0 → Noticing t a b × (accept (noticed t a b) ≡ noticeOf t a b)
-  notice-accepted = by-notice (λ x. x .number ≡ 0 → Noticing t a b × (accept (noticed t a b) ≡ x)) (λ n d r e. absurd (d e)) (λ s e. (s, refl))

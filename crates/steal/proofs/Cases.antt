@@ -2,16 +2,14 @@
 -- `Stealing` says. Assumes nothing.
 use Prim.Native.Nat.{ℕ, _<_}
 use mathlib.Core.Path.{_≡_, refl}
-use mathlib.Core.Logic.{_≢_}
-use mathlib.Core.Bool.{true, not, _&&_}
-use native.Mathlib.Omega.{arith}
+use mathlib.Core.Bool.{not}
 use borrow.Author.Tests.{eqb-true, leb-false, not-false}
 use lib.Dec.{eqb, leb}
 use Rattle.lists.proofs.Cases.{byBool}
 use Rattle.table.specs.declared.Table.{Table}
-use Rattle.table.specs.declared.Answer.{Answer}
-use Rattle.table.specs.Views.{nodeAt, toldAt, refuse}
-use Rattle.table.specs.Parts.{lives, accept}
+use Rattle.table.specs.Views.{nodeAt, toldAt}
+use Rattle.table.specs.Parts.{lives}
+use Rattle.table.proofs.Refusals.{Judged}
 use Rattle.steal.specs.Steal.{stolen, stealOf}
 
 pub record Stealing (t : Table) (a b : ℕ) : Type 0 where
@@ -22,16 +20,13 @@ pub record Stealing (t : Table) (a b : ℕ) : Type 0 where
   pub room : t .«in_flight» < 128
 
 module _ (t : Table) (a b : ℕ) (h : a < t .machines) (k : b < t .machines) where
-  pub by-steal : (P : Answer → Type 0) → ((n : ℕ) → n ≢ 0 → leb 10 n && leb n 99 ≡ true → P (refuse n t)) → (Stealing t a b → P (accept (stolen t a b))) → P (stealOf t a b)
+  pub by-steal : Judged t (Stealing t a b) (stolen t a b) (stealOf t a b)
   unfolding stealOf
   by-steal P refused f =
-      byBool (not (lives t a)) (λ e. rw (e, stealOf) (refused 12 (λ z. omega arith) refl))
-      (λ e1. byBool (eqb a b) (λ e. rw (e1, e, stealOf) (refused 14 (λ z. omega arith) refl))
-      (λ e2. byBool (not (eqb (nodeAt t a .waits) 0)) (λ e. rw (e1, e2, e, stealOf) (refused 14 (λ z. omega arith) refl))
-      (λ e3. byBool (not (eqb (toldAt t a b) 0)) (λ e. rw (e1, e2, e3, e, stealOf) (refused 14 (λ z. omega arith) refl))
-      (λ e4. byBool (leb 128 (t .«in_flight»)) (λ e. rw (e1, e2, e3, e4, e, stealOf) (refused 16 (λ z. omega arith) refl))
+      byBool (not (lives t a)) (λ e. rw (e, stealOf) (refused 12 refl))
+      (λ e1. byBool (eqb a b) (λ e. rw (e1, e, stealOf) (refused 14 refl))
+      (λ e2. byBool (not (eqb (nodeAt t a .waits) 0)) (λ e. rw (e1, e2, e, stealOf) (refused 14 refl))
+      (λ e3. byBool (not (eqb (toldAt t a b) 0)) (λ e. rw (e1, e2, e3, e, stealOf) (refused 14 refl))
+      (λ e4. byBool (leb 128 (t .«in_flight»)) (λ e. rw (e1, e2, e3, e4, e, stealOf) (refused 16 refl))
       (λ e5. rw (e1, e2, e3, e4, e5, stealOf)
       (f (record { machine = h; victim = k; alive = eqb-true _ 1 (not-false (lives t a) e1); untold = eqb-true (toldAt t a b) 0 (not-false _ e4); room = leb-false 128 (t .«in_flight») e5 })))))))
-
-  pub steal-accepted : stealOf t a b .number ≡ 0 → Stealing t a b × (accept (stolen t a b) ≡ stealOf t a b)
-  steal-accepted = by-steal (λ x. x .number ≡ 0 → Stealing t a b × (accept (stolen t a b) ≡ x)) (λ n d r e. absurd (d e)) (λ s e. (s, refl))

@@ -1,0 +1,27 @@
+-- Document 01, "The table": the codes of the events, by the names of the events. Definitions only.
+use Prim.Native.Nat.{ℕ}
+
+abbrev pub ADMIT : ℕ
+ADMIT = 1
+
+abbrev pub STEAL : ℕ
+STEAL = 2
+
+abbrev pub DELIVER : ℕ
+DELIVER = 3
+
+abbrev pub START : ℕ
+START = 4
+
+abbrev pub DONE : ℕ
+DONE = 5
+
+abbrev pub DIE : ℕ
+DIE = 6
+
+abbrev pub NOTICE : ℕ
+NOTICE = 7
+
+-- the codes are 1 to this one
+abbrev pub lastCode : ℕ
+lastCode = NOTICE
