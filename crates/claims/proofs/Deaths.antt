@@ -27,14 +27,13 @@ use Rattle.notice.specs.Notice.{noticed}
 use Rattle.preservation.proofs.Facts.{told-dead}
 use Rattle.invariant.proofs.State.{Whole}
 use Rattle.invariant.proofs.Hand.{hand}
-use Rattle.invariant.proofs.Fixed.{fixed-admitted, fixed-stolen, fixed-delivered, fixed-started, fixed-finished, fixed-died, fixed-noticed}
+use Rattle.dispatcher.proofs.Fixed.{fixed-machines, fixed-died, fixed-step}
 use Rattle.invariant.proofs.Died.{node-died, node-died-other}
 use Rattle.invariant.proofs.Alive.{alive-admitted, alive-stolen, alive-started, alive-finished, alive-noticed}
 use Rattle.invariant.proofs.Keeps.{whole-step}
 use Rattle.dispatcher.specs.Step.{codeOf, firstOf, secondOf, stepOf, runOf}
 use Rattle.dispatcher.proofs.Events.{by-cases}
 use Rattle.events.proofs.Cases.{Dying}
-use Rattle.drain.proofs.Kept.{fixed-machines}
 use Rattle.drain.proofs.Weights.{lighter}
 use Rattle.claims.specs.History.{countOf, kills}
 use Rattle.claims.proofs.Runs.{count-more, count-none}
@@ -79,25 +78,25 @@ module _ (t : Table) (w : Whole t) (e : List ℕ) where
   abbrev Counted : Answer → Type 0
   Counted x = deaths (x .table) ≡ deaths t + cond (eqb (x .number) 0 && eqb (codeOf e) 6) 1 0
 
-  -- an event of another kind
-  quiet : (u : Table) (k : ℕ) → codeOf e ≡ k → eqb k 6 ≡ false → deaths u ≡ deaths t → Counted (accept u)
-  quiet u k c n same =
+  -- an event of another kind; the machine count stays
+  quiet : (u : Table) (k : ℕ) → codeOf e ≡ k → eqb k 6 ≡ false → ((m : ℕ) → nodeAt u m .alive ≡ nodeAt t m .alive) → u .machines ≡ t .machines → Counted (accept u)
+  quiet u k c n alive same =
       let z : eqb (codeOf e) 6 ≡ false = ap (λ (i : ℕ). eqb i 6) c ∙ n in
-      rw z (omega (arith, same))
+      rw z (omega (arith, deaths-same t u same alive))
 
   deaths-step : deaths (stepOf t e .table) ≡ deaths t + cond (kills t e) 1 0
   deaths-step =
       let a = firstOf e in
       let b = secondOf e in
-      by-cases Counted t e (λ n d r. rw (ne-eqb n 0 d) (omega arith)) (record {
-        admit = λ c d. quiet (admitted t a) 1 c refl (deaths-same t _ (fixed-admitted (λ s. s .machines) fixed-machines t a) (alive-admitted t (w .sized) a));
-        steal = λ c d. quiet (stolen t a b) 2 c refl (deaths-same t _ (fixed-stolen (λ s. s .machines) fixed-machines t a b) (λ m. alive-stolen t (w .sized) a b m (machine-16 a (d .machine))));
-        deliver = λ c d. quiet (delivered t (oldest t a b)) 3 c refl (deaths-same t _ (fixed-delivered (λ s. s .machines) fixed-machines t (oldest t a b)) (λ m. alive-delivered (oldest t a b) m (d .slot)));
-        start = λ c d. quiet (started t a b) 4 c refl (deaths-same t _ (fixed-started (λ s. s .machines) fixed-machines t a b) (λ m. alive-started t (w .sized) a b m (machine-16 a (d .machine))));
-        done = λ c d. quiet (finished t a) 5 c refl (deaths-same t _ (fixed-finished (λ s. s .machines) fixed-machines t a) (λ m. alive-finished t (w .sized) a m (machine-16 a (d .machine))));
-        die = λ c d. rw (eq-eqb (codeOf e) 6 c) (deaths-died t a w d);
-        notice = λ c d. quiet (noticed t a b) 7 c refl (deaths-same t _ (fixed-noticed (λ s. s .machines) fixed-machines t a b) (λ m. alive-noticed t (w .sized) a b m (machine-16 a (d .machine))));
-      })
+      by-cases (λ x. x .table .machines ≡ t .machines → Counted x) t e (λ n d r same. rw (ne-eqb n 0 d) (omega arith)) (record {
+        admit = λ c d. quiet (admitted t a) 1 c refl (alive-admitted t (w .sized) a);
+        steal = λ c d. quiet (stolen t a b) 2 c refl (λ m. alive-stolen t (w .sized) a b m (machine-16 a (d .machine)));
+        deliver = λ c d. quiet (delivered t (oldest t a b)) 3 c refl (λ m. alive-delivered (oldest t a b) m (d .slot));
+        start = λ c d. quiet (started t a b) 4 c refl (λ m. alive-started t (w .sized) a b m (machine-16 a (d .machine)));
+        done = λ c d. quiet (finished t a) 5 c refl (λ m. alive-finished t (w .sized) a m (machine-16 a (d .machine)));
+        die = λ c d same. rw (eq-eqb (codeOf e) 6 c) (deaths-died t a w d);
+        notice = λ c d. quiet (noticed t a b) 7 c refl (λ m. alive-noticed t (w .sized) a b m (machine-16 a (d .machine)));
+      }) (fixed-step (λ s. s .machines) fixed-machines t e)
 
 pub deaths-run : (t : Table) (es : List (List ℕ)) → Whole t → deaths (runOf t es) ≡ deaths t + countOf kills t es
 unfolding runOf

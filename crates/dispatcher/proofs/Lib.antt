@@ -2,6 +2,7 @@ pub mod Accepted
 pub mod Numbers
 pub mod Events
 pub mod ByEvent
+pub mod Fixed
 pub mod Kept
 pub mod Nine
 pub mod Ready

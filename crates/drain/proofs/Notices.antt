@@ -6,21 +6,20 @@ use Prim.Native.Nat.{ℕ, suc, _≤_, _<_}
 use native.Mathlib.Omega.{arith}
 use lib.Dec.{ltb}
 use borrow.Author.Tests.{ltb-true, ltb-false}
-use Rattle.table.specs.declared.Machine.{Machine}
 use Rattle.table.specs.declared.Table.{Table}
 use Rattle.table.specs.Views.{nodeAt, toldAt}
 use Rattle.table.specs.Parts.{accept}
 use Rattle.notice.specs.Notice.{quieted, noticed}
 use Rattle.lists.proofs.Cases.{byBool, byEq}
 use Rattle.invariant.proofs.State.{Whole}
-use Rattle.invariant.proofs.Fixed.{fixed-noticed}
+use Rattle.dispatcher.proofs.Fixed.{fixed-machines, fixed-noticed}
 use Rattle.invariant.proofs.Quieted.{told-quieted, told-quieted-other}
 use Rattle.invariant.proofs.Alive.{alive-noticed}
 use Rattle.invariant.proofs.Reissued.{told-reissue}
 use Rattle.dispatcher.specs.Step.{stepOf}
 use Rattle.drain.proofs.Reach.{Reach, reach-here, reach-step, reach-loop}
 use Rattle.drain.proofs.Steps.{event, accepts-notice}
-use Rattle.drain.proofs.Kept.{kept, fixed-machines}
+use Rattle.drain.proofs.Kept.{kept}
 
 -- ---- the table after a notice to the root
 

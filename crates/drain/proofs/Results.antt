@@ -27,11 +27,11 @@ use Rattle.lists.proofs.Cases.{byBool, byEq}
 use Rattle.preservation.proofs.Sizes.{used-pull}
 use Rattle.invariant.proofs.State.{Whole}
 use Rattle.invariant.proofs.About.{alive-running}
-use Rattle.invariant.proofs.Fixed.{fixed-delivered, fixed-finished}
+use Rattle.dispatcher.proofs.Fixed.{fixed-machines, fixed-delivered, fixed-finished}
 use Rattle.dispatcher.specs.Step.{stepOf}
 use Rattle.drain.proofs.Reach.{Reach, reach-here, reach-step}
 use Rattle.drain.proofs.Steps.{event, accepts-deliver, accepts-done}
-use Rattle.drain.proofs.Kept.{kept, fixed-machines}
+use Rattle.drain.proofs.Kept.{kept}
 use Rattle.drain.proofs.Deliveries.{Quiet, informed-same, flight-empty}
 
 -- u is the table once machine a's running copy of t is priced

@@ -19,11 +19,9 @@ pub mod SideFrame
 pub mod SideHandle
 pub mod SideEvents
 pub mod SideNotice
-pub mod Fixed
 pub mod PricesHandle
 pub mod PricesEvents
 pub mod Fresh
-pub mod ByKind
 pub mod TripLaws
 pub mod TripFrame
 pub mod TripCopies

@@ -29,7 +29,7 @@ use Rattle.invariant.proofs.Died.{job-died, flight-died}
 use Rattle.notice.proofs.Parts.{job-quieted}
 use Rattle.invariant.proofs.Quieted.{flight-quieted}
 use Rattle.invariant.proofs.Reissued.{reissuedJob, job-reissue, flight-reissue}
-use Rattle.invariant.proofs.Fixed.{fixed-bond, fixed-admitted, fixed-stolen, fixed-started, fixed-finished, fixed-died, fixed-noticed}
+use Rattle.dispatcher.proofs.Fixed.{fixed-bond, fixed-admitted, fixed-stolen, fixed-started, fixed-finished, fixed-died, fixed-noticed}
 use Rattle.invariant.proofs.PricesHandle.{PricesBy, prices-by, by-prices, by-send, by-frame, by-job}
 
 -- a RESULT with the price of its job's terms
