@@ -26,7 +26,7 @@ use Rattle.preservation.proofs.Facts.{told-in, told-dead}
 use Rattle.invariant.proofs.State.{Whole}
 use Rattle.invariant.proofs.Hand.{hand}
 use Rattle.dispatcher.proofs.Fixed.{fixed-machines, fixed-died, fixed-step}
-use Rattle.invariant.proofs.Died.{node-died, node-died-other}
+use Rattle.events.proofs.Views.{node-died, node-died-other}
 use Rattle.invariant.proofs.Alive.{alive-admitted, alive-stolen, alive-started, alive-finished, alive-noticed}
 use Rattle.invariant.proofs.Keeps.{whole-step}
 use Rattle.dispatcher.specs.Step.{codeOf, firstOf, secondOf, stepOf, runOf}

@@ -2,7 +2,6 @@ pub mod State
 pub mod Flight
 pub mod Frame
 pub mod Hand
-pub mod Died
 pub mod Quieted
 pub mod Reissued
 pub mod About
