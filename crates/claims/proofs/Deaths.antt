@@ -6,10 +6,9 @@ use mathlib.Core.Logic.{_≢_}
 use mathlib.Core.Bool.{Bool, true, false, not, cond, _&&_}
 use mathlib.Core.List.{List, [], _∷_}
 use native.Mathlib.Omega.{arith}
-use borrow.Author.Tests.{eqb-true, eq-eqb, ne-eqb, ltb-true, lt-ltb}
+use borrow.Author.Tests.{eqb-true, eq-eqb, ne-eqb, lt-ltb}
 use lib.Dec.{eqb, ltb}
 use Rattle.lists.specs.Scan.{countTo}
-use Rattle.lists.proofs.Cases.{and-left, and-right, or-elim}
 use Rattle.lists.proofs.Count.{countTo-up, countTo-same, countTo-one}
 use Rattle.table.specs.declared.Machine.{Machine}
 use Rattle.table.specs.declared.Table.{Table}
@@ -18,17 +17,16 @@ use Rattle.table.specs.Views.{nodeAt, toldAt, messageAt}
 use Rattle.table.specs.Messages.{oldest, pull}
 use Rattle.table.specs.Parts.{accept}
 use Rattle.table.proofs.Views.{node-messages}
-use Rattle.elements.specs.Elements.{toldOk}
 use Rattle.validity.specs.Validity.{bound}
 use Rattle.events.specs.Events.{admitted, delivered, died}
 use Rattle.steal.specs.Steal.{stolen}
 use Rattle.work.specs.Work.{started, finished}
 use Rattle.notice.specs.Notice.{noticed}
-use Rattle.preservation.proofs.Facts.{told-dead}
+use Rattle.preservation.proofs.Facts.{told-in, told-dead}
 use Rattle.invariant.proofs.State.{Whole}
 use Rattle.invariant.proofs.Hand.{hand}
-use Rattle.invariant.proofs.Fixed.{fixed-admitted, fixed-stolen, fixed-delivered, fixed-started, fixed-finished, fixed-died, fixed-noticed}
-use Rattle.invariant.proofs.Died.{node-died, node-died-other}
+use Rattle.dispatcher.proofs.Fixed.{fixed-machines, fixed-admitted, fixed-stolen, fixed-delivered, fixed-started, fixed-finished, fixed-died, fixed-noticed}
+use Rattle.events.proofs.Views.{node-died, node-died-other}
 use Rattle.invariant.proofs.Alive.{alive-admitted, alive-stolen, alive-started, alive-finished, alive-noticed}
 use Rattle.invariant.proofs.Keeps.{whole-step}
 use Rattle.dispatcher.specs.Codes.{ADMIT, STEAL, DELIVER, START, DONE, DIE, NOTICE}
@@ -36,7 +34,6 @@ use Rattle.dispatcher.specs.Step.{codeOf, firstOf, secondOf, stepOf, runOf}
 use Rattle.table.proofs.Refusals.{refused-nonzero}
 use Rattle.dispatcher.proofs.Events.{by-cases}
 use Rattle.events.proofs.Cases.{Dying}
-use Rattle.drain.proofs.Kept.{fixed-machines}
 use Rattle.drain.proofs.Weights.{lighter}
 use Rattle.claims.specs.History.{countOf, kills}
 use Rattle.claims.proofs.Runs.{count-more, count-none}
@@ -108,12 +105,6 @@ deaths-run t (e ∷ es) w = omega (arith, deaths-run (stepOf t e .table) es (who
 
 -- ---- the bound of the replica numbers
 
--- who is told of is a machine of the table
-told-machine : (M al m d x : ℕ) → toldOk M al m d x ≡ true → x ≢ 0 → d < M
-told-machine M al m d x g h =
-    let all : eqb x 1 && ltb m M && ltb d M && eqb al 0 ≡ true = or-elim (eqb x 0) _ g (ne-eqb x 0 h) in
-    ltb-true d M (and-right (eqb x 1 && ltb m M) (ltb d M) (and-left (eqb x 1 && ltb m M && ltb d M) (eqb al 0) all))
-
 pub bound-deaths : (t : Table) → Whole t → bound t ≤ 1 + deaths t
 unfolding bound
 bound-deaths t w =
@@ -124,5 +115,5 @@ bound-deaths t w =
           let some : toldAt t 0 d ≢ 0 = λ z. omega arith in
           let g = w .ok .told 0 d (omega arith) l in
           let dead = told-dead (t .machines) (nodeAt t d .alive) 0 d (toldAt t 0 d) g some in
-          rw (lt-ltb d (t .machines) (told-machine (t .machines) (nodeAt t d .alive) 0 d (toldAt t 0 d) g some), dead) refl),
+          rw (lt-ltb d (t .machines) (told-in (t .machines) (nodeAt t d .alive) 0 d (toldAt t 0 d) g some .1), dead) refl),
     )

@@ -24,7 +24,7 @@ use Rattle.invariant.proofs.State.{Known, Hand, Whole}
 use Rattle.invariant.proofs.Hand.{hand}
 use Rattle.invariant.proofs.Flight.{every-taken, view-either}
 use Rattle.invariant.proofs.Frame.{job-enter}
-use Rattle.invariant.proofs.ByKind.{by-kind}
+use Rattle.handlers.proofs.Cases.{by-kind}
 use Rattle.claims.proofs.Change.{Same, same-job, Change, job-send, job-pull, same-with}
 use Rattle.claims.proofs.Change.Change.{pricing, late, other}
 
@@ -148,7 +148,7 @@ module _ (s : Table) (x : Message) (h : Hand s x) (cap : x .replica ≤ jobAt s 
 
   after-handle : After (handle s x)
   after-handle =
-      by-kind After s x (h .message .kind-least) (h .message .kind-most)
+      by-kind After s x (λ n. absurd (n (h .message .kind-least) (h .message .kind-most)))
       (λ k. kept (onFish s x) 1 k refl (job-fish s x j))
       (λ k. plain (onReq s x) 2 k refl same-req)
       (λ k. kept (onAuth s x) 3 k refl (job-auth s x j))

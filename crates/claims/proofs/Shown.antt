@@ -13,7 +13,7 @@ use Rattle.table.specs.declared.Job.{Job}
 use Rattle.table.specs.declared.Table.{Table}
 use Rattle.table.specs.Views.{bondAt, jobAt}
 use Rattle.invariant.proofs.State.{Whole}
-use Rattle.invariant.proofs.Fixed.{bond-run}
+use Rattle.dispatcher.proofs.Fixed.{bond-run}
 use Rattle.invariant.proofs.Keeps.{whole-run}
 use Rattle.dispatcher.specs.Step.{runOf}
 use Rattle.claims.specs.History.{countOf, admits, kills, serialOf}

@@ -23,7 +23,7 @@ use Rattle.notice.specs.Notice.{lost, quieted, reissue, noticed}
 use Rattle.preservation.proofs.Sizes.{sized-quieted}
 use Rattle.invariant.proofs.State.{Whole}
 use Rattle.invariant.proofs.Frame.{job-enter}
-use Rattle.invariant.proofs.Died.{job-died}
+use Rattle.events.proofs.Views.{job-died}
 use Rattle.notice.proofs.Parts.{job-quieted}
 use Rattle.invariant.proofs.Reissued.{reissuedJob, job-reissue}
 use Rattle.dispatcher.specs.Codes.{ADMIT, STEAL, DELIVER, START, DONE, DIE, NOTICE}

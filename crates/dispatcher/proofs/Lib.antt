@@ -3,6 +3,7 @@ pub mod Numbers
 pub mod Events
 pub mod Runs
 pub mod ByEvent
+pub mod Fixed
 pub mod Kept
 pub mod Nine
 pub mod Ready

@@ -19,12 +19,12 @@ use Rattle.lists.specs.Scan.{without}
 use Rattle.lists.proofs.Cases.{byEq}
 use Rattle.invariant.proofs.State.{Whole}
 use Rattle.invariant.proofs.Hand.{hand}
-use Rattle.invariant.proofs.Fixed.{fixed-delivered}
+use Rattle.dispatcher.proofs.Fixed.{fixed-machines, fixed-delivered}
 use Rattle.dispatcher.specs.Codes.{DELIVER}
 use Rattle.dispatcher.specs.Step.{event, stepOf}
 use Rattle.drain.proofs.Reach.{Reach, reach-here, reach-step}
 use Rattle.drain.proofs.Steps.{accepts-deliver}
-use Rattle.drain.proofs.Kept.{kept, fixed-machines}
+use Rattle.drain.proofs.Kept.{kept}
 use Rattle.drain.proofs.Weights.{weight, weightOf, weight-range, weight-most, Lighter, lighter}
 
 -- the root was told of every dead machine

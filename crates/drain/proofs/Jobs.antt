@@ -15,12 +15,12 @@ use Rattle.work.specs.Work.{started}
 use Rattle.lists.proofs.Cases.{byEq}
 use Rattle.invariant.proofs.State.{Whole}
 use Rattle.invariant.proofs.Alive.{alive-started}
-use Rattle.invariant.proofs.Fixed.{fixed-started}
+use Rattle.dispatcher.proofs.Fixed.{fixed-machines, fixed-started}
 use Rattle.dispatcher.specs.Codes.{START}
 use Rattle.dispatcher.specs.Step.{event, stepOf}
 use Rattle.drain.proofs.Reach.{Reach, reach-here, reach-step, reach-map, reach-loop}
 use Rattle.drain.proofs.Steps.{accepts-start}
-use Rattle.drain.proofs.Kept.{kept, fixed-machines}
+use Rattle.drain.proofs.Kept.{kept}
 use Rattle.drain.proofs.Deliveries.{Quiet, informed-same}
 use Rattle.drain.proofs.Results.{Finished, finishes}
 use Rattle.drain.proofs.Settled.{Pooled, settled}

@@ -1,4 +1,4 @@
--- An accepted event keeps the invariant, and no event changes the machine count.
+-- An accepted event keeps the invariant.
 -- Assumes nothing.
 use mathlib.Core.Path.{_≡_, ap}
 use mathlib.Core.List.{List}
@@ -6,15 +6,10 @@ use Prim.Native.Nat.{ℕ}
 use Rattle.table.specs.declared.Answer.{Answer}
 use Rattle.table.specs.declared.Table.{Table}
 use Rattle.table.specs.Parts.{accept}
-use Rattle.table.proofs.Views.{machines-job, machines-node, machines-pool, machines-told, machines-messages}
 use Rattle.invariant.proofs.State.{Whole}
 use Rattle.invariant.proofs.Keeps.{whole-step}
-use Rattle.invariant.proofs.Fixed.{Fixed}
 use Rattle.dispatcher.specs.Step.{stepOf}
 
 -- the table that an accepted event returns
 pub kept : (t u : Table) (e : List ℕ) → Whole t → stepOf t e ≡ accept u → Whole u
 kept t u e w s = let next : stepOf t e .table ≡ u = ap (λ (a : Answer). a .table) s in rw next at (whole-step t e w)
-
-pub fixed-machines : Fixed (λ t. t .machines)
-fixed-machines = record { job = machines-job; node = machines-node; pool = machines-pool; told = machines-told; messages = machines-messages }

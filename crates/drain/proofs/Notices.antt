@@ -12,7 +12,7 @@ use Rattle.table.specs.Parts.{accept}
 use Rattle.notice.specs.Notice.{quieted, noticed}
 use Rattle.lists.proofs.Cases.{byBool, byEq}
 use Rattle.invariant.proofs.State.{Whole}
-use Rattle.invariant.proofs.Fixed.{fixed-noticed}
+use Rattle.dispatcher.proofs.Fixed.{fixed-machines, fixed-noticed}
 use Rattle.invariant.proofs.Quieted.{told-quieted, told-quieted-other}
 use Rattle.invariant.proofs.Alive.{alive-noticed}
 use Rattle.invariant.proofs.Reissued.{told-reissue}
@@ -20,7 +20,7 @@ use Rattle.dispatcher.specs.Codes.{NOTICE}
 use Rattle.dispatcher.specs.Step.{event, stepOf}
 use Rattle.drain.proofs.Reach.{Reach, reach-here, reach-step, reach-loop}
 use Rattle.drain.proofs.Steps.{accepts-notice}
-use Rattle.drain.proofs.Kept.{kept, fixed-machines}
+use Rattle.drain.proofs.Kept.{kept}
 
 -- ---- the table after a notice to the root
 

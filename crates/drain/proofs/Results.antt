@@ -27,12 +27,12 @@ use Rattle.lists.proofs.Cases.{byBool, byEq}
 use Rattle.preservation.proofs.Sizes.{used-pull}
 use Rattle.invariant.proofs.State.{Whole}
 use Rattle.invariant.proofs.About.{alive-running}
-use Rattle.invariant.proofs.Fixed.{fixed-delivered, fixed-finished}
+use Rattle.dispatcher.proofs.Fixed.{fixed-machines, fixed-delivered, fixed-finished}
 use Rattle.dispatcher.specs.Codes.{DELIVER, DONE}
 use Rattle.dispatcher.specs.Step.{event, stepOf}
 use Rattle.drain.proofs.Reach.{Reach, reach-here, reach-step}
 use Rattle.drain.proofs.Steps.{accepts-deliver, accepts-done}
-use Rattle.drain.proofs.Kept.{kept, fixed-machines}
+use Rattle.drain.proofs.Kept.{kept}
 use Rattle.drain.proofs.Deliveries.{Quiet, informed-same, flight-empty}
 
 -- u is the table once machine a's running copy of t is priced
@@ -75,7 +75,7 @@ module _ (t : Table) (a : ℕ) (q : Quiet t) (al : a < 16) (runs : nodeAt t a .�
   r = withNode t a (running (nodeAt t a) 0 0)
 
   lives : nodeAt t a .alive ≡ 1
-  lives = byEq (nodeAt t a .alive) 1 (λ e. e) (λ e. absurd (runs (q .whole .facts .machine a al .dead-running (omega (arith, q .whole .facts .machine a al .alive)))))
+  lives = byEq (nodeAt t a .alive) 1 (λ e. e) (λ e. absurd (runs (ap (λ (n : Machine). n .«running_replica») (q .whole .facts .machine a al .dead (omega (arith, q .whole .facts .machine a al .alive))))))
 
   r-sized : Sized r
   unfolding r

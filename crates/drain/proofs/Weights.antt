@@ -23,7 +23,7 @@ use Rattle.lists.proofs.Cases.{byBool}
 use Rattle.invariant.proofs.State.{Hand}
 use Rattle.invariant.proofs.Frame.{Frame, frame-refl, frame-job, frame-pool, frame-node, frame-enter, frame-returned}
 use Rattle.invariant.proofs.About.{alive-reserve, alive-release, alive-waiting}
-use Rattle.invariant.proofs.ByKind.{by-kind}
+use Rattle.handlers.proofs.Cases.{by-kind}
 
 unfoldable pub weightOf : ℕ → ℕ
 weightOf k = cond (eqb k FISH) 5 (cond (eqb k REQ) 4 (cond (eqb k AUTH) 3 (cond (eqb k DENIED || eqb k OBSOLETE || eqb k SCHEDULE) 2 1)))
@@ -171,7 +171,7 @@ module _ (s : Table) (x : Message) (h : Hand s x) where
   pub lighter : Lighter s x (handle s x)
   unfolding weightOf
   lighter =
-      by-kind (Lighter s x) s x (h .message .kind-least) (h .message .kind-most)
+      by-kind (Lighter s x) s x (λ n. absurd (n (h .message .kind-least) (h .message .kind-most)))
       (λ e. less 4 FISH (onFish s x) e (omega arith) fish)
       (λ e. less 3 REQ (onReq s x) e (omega arith) req)
       (λ e. less 2 AUTH (onAuth s x) e (omega arith) auth)

@@ -13,7 +13,7 @@ use Rattle.handlers.specs.Handlers.{handle}
 use Rattle.events.specs.Events.{delivered}
 use Rattle.invariant.proofs.State.{Conserved, Hand, Whole, isAnswer}
 use Rattle.invariant.proofs.Hand.{hand}
-use Rattle.invariant.proofs.ByKind.{by-kind}
+use Rattle.handlers.proofs.Cases.{by-kind}
 use Rattle.invariant.proofs.ConservedFrame.{conserved-takes}
 use Rattle.invariant.proofs.ConservedFish.{conserved-fish}
 use Rattle.invariant.proofs.ConservedAnswers.{conserved-auth, conserved-denied, conserved-obsolete}
@@ -25,7 +25,7 @@ module _ (s : Table) (x : Message) (h : Hand s x) (c : Conserved s (x ∷ flight
 
   pub conserved-handle : Conserved (handle s x) (flight (handle s x))
   conserved-handle =
-      by-kind (λ t. Conserved t (flight t)) s x (h .message .kind-least) (h .message .kind-most)
+      by-kind (λ t. Conserved t (flight t)) s x (λ n. absurd (n (h .message .kind-least) (h .message .kind-most)))
       (λ e. conserved-fish s x h e c)
       (λ e. conserved-req s x h c e)
       (λ e. conserved-auth s x h (rw e) (answer AUTH e (unfold isAnswer in refl)) c)

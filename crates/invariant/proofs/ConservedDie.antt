@@ -18,7 +18,7 @@ use Rattle.table.specs.Parts.{copyIs, reserves, REQ}
 use Rattle.events.specs.Events.{died}
 use Rattle.preservation.proofs.Facts.{MessageFacts}
 use Rattle.invariant.proofs.State.{Conserved, Whole, isAnswer, about}
-use Rattle.invariant.proofs.Died.{told-died, flight-died, node-died, node-died-other}
+use Rattle.events.proofs.Views.{told-died, flight-died, node-died, node-died-other}
 
 -- a message about m's copy is to m or to the root
 about-kept : (m th j q a : ℕ) (x : Message) → a ≢ 0 → m ≢ a → (x .kind ≡ REQ → x .to ≡ 0) → about m th j q x ≡ true → notTo a x ≡ true

@@ -2,7 +2,6 @@ pub mod State
 pub mod Flight
 pub mod Frame
 pub mod Hand
-pub mod Died
 pub mod Quieted
 pub mod Reissued
 pub mod About
@@ -19,11 +18,9 @@ pub mod SideFrame
 pub mod SideHandle
 pub mod SideEvents
 pub mod SideNotice
-pub mod Fixed
 pub mod PricesHandle
 pub mod PricesEvents
 pub mod Fresh
-pub mod ByKind
 pub mod TripLaws
 pub mod TripFrame
 pub mod TripCopies

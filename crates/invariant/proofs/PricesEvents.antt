@@ -25,11 +25,11 @@ use Rattle.preservation.proofs.Sizes.{sized-quieted}
 use Rattle.invariant.proofs.State.{Prices, RightPrice, Whole}
 use Rattle.invariant.proofs.Frame.{Frame, frame-refl, frame-node, frame-pool, flight-enter, job-enter}
 use Rattle.invariant.proofs.About.{alive-running, alive-waiting}
-use Rattle.invariant.proofs.Died.{job-died, flight-died}
+use Rattle.events.proofs.Views.{job-died, flight-died}
 use Rattle.notice.proofs.Parts.{job-quieted}
 use Rattle.invariant.proofs.Quieted.{flight-quieted}
 use Rattle.invariant.proofs.Reissued.{reissuedJob, job-reissue, flight-reissue}
-use Rattle.invariant.proofs.Fixed.{fixed-bond, fixed-admitted, fixed-stolen, fixed-started, fixed-finished, fixed-died, fixed-noticed}
+use Rattle.dispatcher.proofs.Fixed.{fixed-bond, fixed-admitted, fixed-stolen, fixed-started, fixed-finished, fixed-died, fixed-noticed}
 use Rattle.invariant.proofs.PricesHandle.{PricesBy, prices-by, by-prices, by-send, by-frame, by-job}
 
 -- a RESULT with the price of its job's terms

@@ -25,11 +25,11 @@ use Rattle.handlers.specs.Handlers.{handle}
 use Rattle.events.specs.Events.{delivered}
 use Rattle.invariant.proofs.State.{Prices, RightPrice, Hand, Whole}
 use Rattle.invariant.proofs.Hand.{hand}
-use Rattle.invariant.proofs.ByKind.{by-kind}
+use Rattle.handlers.proofs.Cases.{by-kind}
 use Rattle.invariant.proofs.Flight.{Apart, sends, every-taken, takes}
 use Rattle.invariant.proofs.Frame.{Frame, frame-refl, frame-job, frame-node, frame-pool, frame-enter, frame-returned, job-enter}
 use Rattle.invariant.proofs.About.{alive-reserve, alive-release, alive-waiting, kind-message}
-use Rattle.invariant.proofs.Fixed.{fixed-bond, fixed-handle}
+use Rattle.dispatcher.proofs.Fixed.{fixed-bond, fixed-handle}
 
 -- clause X of u and l, by the terms that s has
 pub record PricesBy (s u : Table) (l : List Message) : Type 0 where
@@ -173,7 +173,7 @@ module _ (s : Table) (x : Message) (h : Hand s x) (p : PricesBy s s (flight s)) 
 
   right-handle : Right (handle s x)
   right-handle =
-      by-kind (λ u. PricesBy s u (flight u)) s x (h .message .kind-least) (h .message .kind-most)
+      by-kind (λ u. PricesBy s u (flight u)) s x (λ n. absurd (n (h .message .kind-least) (h .message .kind-most)))
       (λ e. right-fish) (λ e. right-req) (λ e. right-auth) (λ e. right-denied) (λ e. right-obsolete) (λ e. right-schedule) (λ e. right-ack) (λ e. right-nowork) right-result
 
 pub prices-handle : (s : Table) (x : Message) → Hand s x → Prices s (x ∷ flight s) → Prices (handle s x) (flight (handle s x))

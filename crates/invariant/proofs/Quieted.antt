@@ -9,12 +9,13 @@ use Rattle.lists.specs.Scan.{filter}
 use Rattle.lists.proofs.Cases.{byBool}
 use Rattle.table.specs.declared.Machine.{Machine}
 use Rattle.table.specs.declared.Table.{Table}
-use Rattle.table.specs.Views.{nodeAt, toldAt, flight, withNode, withMessages, enter}
+use Rattle.table.specs.Views.{nodeAt, toldAt, flight, withMessages, enter}
 use Rattle.table.specs.Messages.{sift, notFrom}
 use Rattle.table.specs.Parts.{release, waiting, returned}
 use Rattle.table.proofs.Views.{Sized, views, node-same, node-other, told-same, told-other, told-other-node, told-messages, flight-told}
 use Rattle.table.proofs.Messages.{flight-sift, sized-sift}
 use Rattle.notice.specs.Notice.{informed, unwaited, reclaimed, quieted}
+use Rattle.notice.proofs.Parts.{node-informed, same-quieted}
 use Rattle.preservation.proofs.Sizes.{sized-informed, sized-reclaimed}
 use Rattle.invariant.proofs.Frame.{node-returned, node-returned-other}
 
@@ -29,15 +30,6 @@ unfoldable pub quietedNode : Machine → ℕ → Machine
 quietedNode n b = unwaitedNode (reclaimedNode n b) b
 
 module _ (t : Table) (a b : ℕ) where
-  -- a view that none of the three steps changes
-  same-reclaimed : {A : Type 0} (f : Table → A) → f (returned t a) ≡ f t → f (reclaimed t a b) ≡ f t
-  unfolding reclaimed
-  same-reclaimed f e = byBool (not (eqb (nodeAt t a .«reserved_replica») 0) && eqb (nodeAt t a .«reserved_thief») b) (λ c. rw (c, reclaimed) e) (λ c. rw (c, reclaimed))
-
-  same-unwaited : {A : Type 0} (f : Table → A) → f (withNode t a (waiting (nodeAt t a) 0)) ≡ f t → f (unwaited t a b) ≡ f t
-  unfolding unwaited
-  same-unwaited f e = byBool (eqb (nodeAt t a .waits) (b + 1)) (λ c. rw (c, unwaited) e) (λ c. rw (c, unwaited))
-
   node-reclaimed : Sized t → a < 16 → nodeAt (reclaimed t a b) a ≡ reclaimedNode (nodeAt t a) b
   unfolding reclaimed reclaimedNode
   node-reclaimed s l =
@@ -53,24 +45,13 @@ module _ (t : Table) (a b : ℕ) where
       (λ c. rw (c, unwaited))
 
 module _ (t : Table) (a b : ℕ) where
-  informed-node : (m : ℕ) → nodeAt (informed t a b) m ≡ nodeAt t m
-  unfolding informed sift
-  informed-node m = simp views
-
-  -- a view that is neither a pool's nor machine a's
-  same-quieted : {A : Type 0} (f : Table → A) → ((u : Table) → f (returned u a) ≡ f u) → ((u : Table) (v : Machine) → f (withNode u a v) ≡ f u) → f (quieted t a b) ≡ f (informed t a b)
-  unfolding quieted
-  same-quieted f p q =
-      same-unwaited (reclaimed (informed t a b) a b) a b f (q (reclaimed (informed t a b) a b) _)
-      ∙ same-reclaimed (informed t a b) a b f (p (informed t a b))
-
   pub flight-quieted : flight (quieted t a b) ≡ filter (notFrom b a) (flight t)
   unfolding informed returned enter
-  flight-quieted = same-quieted flight (λ u. simp views) (λ u v. simp views) ∙ flight-told (sift t (notFrom b a)) a b 1 ∙ flight-sift t (notFrom b a)
+  flight-quieted = same-quieted flight t a b (λ u. simp views) (λ u v. simp views) ∙ flight-told (sift t (notFrom b a)) a b 1 ∙ flight-sift t (notFrom b a)
 
   told-informed : (m d : ℕ) → toldAt (quieted t a b) m d ≡ toldAt (informed t a b) m d
   unfolding returned enter
-  told-informed m d = same-quieted (λ u. toldAt u m d) (λ u. simp views) (λ u v. simp views)
+  told-informed m d = same-quieted (λ u. toldAt u m d) t a b (λ u. simp views) (λ u v. simp views)
 
   pub told-quieted : Sized t → a < 16 → b < 16 → toldAt (quieted t a b) a b ≡ 1
   unfolding informed
@@ -90,7 +71,7 @@ module _ (t : Table) (a b : ℕ) where
   node-quieted s l =
       let i = informed t a b in
       node-unwaited (reclaimed i a b) a b (sized-reclaimed i (sized-informed t s a b) a b) l
-      ∙ ap (λ (n : Machine). unwaitedNode n b) (node-reclaimed i a b (sized-informed t s a b) l ∙ ap (λ (n : Machine). reclaimedNode n b) (informed-node a))
+      ∙ ap (λ (n : Machine). unwaitedNode n b) (node-reclaimed i a b (sized-informed t s a b) l ∙ ap (λ (n : Machine). reclaimedNode n b) (node-informed t a b a))
 
   pub node-quieted-other : (m : ℕ) → m ≢ a → nodeAt (quieted t a b) m ≡ nodeAt t m
-  node-quieted-other m e = same-quieted (λ u. nodeAt u m) (λ u. node-returned-other u a m e) (λ u v. node-other u a m v e) ∙ informed-node m
+  node-quieted-other m e = same-quieted (λ u. nodeAt u m) t a b (λ u. node-returned-other u a m e) (λ u v. node-other u a m v e) ∙ node-informed t a b m

@@ -22,7 +22,7 @@ use Rattle.work.specs.Work.{started, finished}
 use Rattle.invariant.proofs.State.{Side, Sender, Copies, Placed, Whole, isAnswer}
 use Rattle.invariant.proofs.Frame.{Frame, frame-refl, frame-node, frame-pool, node-enter, job-enter, told-enter, flight-enter}
 use Rattle.invariant.proofs.About.{alive-running, alive-waiting}
-use Rattle.invariant.proofs.Died.{job-died, told-died, flight-died, node-died, node-died-other}
+use Rattle.events.proofs.Views.{job-died, told-died, flight-died, node-died, node-died-other}
 use Rattle.invariant.proofs.SideFrame.{side-node, side-job, side-sends, copies-waiting, copies-running, copies-none, living-untold, sender-message}
 
 module _ (t : Table) (w : Whole t) where

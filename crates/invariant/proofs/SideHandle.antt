@@ -24,7 +24,7 @@ use Rattle.handlers.specs.Handlers.{handle}
 use Rattle.events.specs.Events.{delivered}
 use Rattle.invariant.proofs.State.{Side, Sender, Copies, Hand, Whole, isAnswer}
 use Rattle.invariant.proofs.Hand.{hand}
-use Rattle.invariant.proofs.ByKind.{by-kind}
+use Rattle.handlers.proofs.Cases.{by-kind}
 use Rattle.invariant.proofs.Frame.{Frame, frame-refl, frame-job, frame-node, frame-pool, frame-enter, frame-returned, node-returned, node-returned-other, node-enter, job-enter}
 use Rattle.invariant.proofs.About.{alive-reserve, alive-release, alive-waiting}
 use Rattle.invariant.proofs.SideFrame.{side-node, side-job, side-list, side-sends, side-takes, copies-release, copies-waiting, copies-reserve, living-untold, sender-message}
@@ -210,7 +210,7 @@ module _ (s : Table) (x : Message) (h : Hand s x) (pools : (m j : ℕ) → m < 1
 
   pub side-handle : Sides (handle s x)
   side-handle =
-      by-kind (λ t. Side t (flight t)) s x (h .message .kind-least) (h .message .kind-most)
+      by-kind (λ t. Side t (flight t)) s x (λ n. absurd (n (h .message .kind-least) (h .message .kind-most)))
       (λ e. side-fish) side-req (λ e. side-auth) (λ e. side-denied) (λ e. side-obsolete) (λ e. side-schedule) side-ack (λ e. side-nowork) (λ e. side-result)
 
 pools-pulled : (t : Table) (k : ℕ) → ((m j : ℕ) → m < 16 → j < 64 → poolAt t m j ≤ jobAt t j .replica) → (m j : ℕ) → m < 16 → j < 64 → poolAt (pull t k) m j ≤ jobAt (pull t k) j .replica

@@ -9,7 +9,7 @@ use Rattle.table.specs.declared.Machine.{Machine}
 use Rattle.table.specs.declared.Table.{Table}
 use Rattle.table.specs.Messages.{notTo}
 use Rattle.events.specs.Events.{died}
-use Rattle.invariant.proofs.Died.{job-died, node-died, node-died-other, pool-died, pool-died-other, flight-died}
+use Rattle.events.proofs.Views.{job-died, node-died, node-died-other, pool-died, pool-died-other, flight-died}
 use Rattle.invariant.proofs.State.{Whole}
 use Rattle.invariant.proofs.TripLaws.{dead-is}
 use Rattle.invariant.proofs.TripWithout.{trip-without}

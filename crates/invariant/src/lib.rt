@@ -4,4 +4,4 @@
 // proofs/Fresh.antt         a fresh table satisfies them
 // proofs/Keeps.antt         every accepted event keeps them, so every step and every run does
 // Conserved*, Trip*, Side*, Prices*   one group of clauses each, through one group of events each
-// Flight, Frame, Hand, ByKind, Died, Quieted, Reissued, Fixed   what sending, the handlers and the events do to the table, through its views
+// Flight, Frame, Hand, Quieted, Reissued   what sending, the handlers and the events do to the table, through its views

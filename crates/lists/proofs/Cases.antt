@@ -36,12 +36,20 @@ pub and-false : (a : Bool) → (a && false) ≡ false
 and-false true = refl
 and-false false = refl
 
+-- a choice between two that have P
+pub cond-elim : {A : Type 0} (P : A → Type 0) (b : Bool) (x y : A) → P x → P y → P (cond b x y)
+cond-elim P true x y p q = p
+cond-elim P false x y p q = q
+
 -- a choice between equals
 pub cond-same : {A : Type 0} (b : Bool) (x : A) → cond b x x ≡ x
 cond-same true x = refl
 cond-same false x = refl
 
 -- ---- disjunctions and conjunctions by their parts
+
+pub or-left : (a b : Bool) → a ≡ true → a || b ≡ true
+or-left a b e = rw e
 
 pub or-right : (a b : Bool) → b ≡ true → a || b ≡ true
 or-right true b e = refl
@@ -54,6 +62,10 @@ or-left-false false b e = refl
 pub or-elim : (a b : Bool) → a || b ≡ true → a ≡ false → b ≡ true
 or-elim true b e f = absurd (true≢false f)
 or-elim false b e f = e
+
+-- either test passes
+pub byOr : {P : Type 0} (a b : Bool) → a || b ≡ true → (a ≡ true → P) → (b ≡ true → P) → P
+byOr a b e f g = byBool a f (λ n. g (or-elim a b e n))
 
 pub or-map : (a b c : Bool) → (b ≡ true → c ≡ true) → a || b ≡ true → a || c ≡ true
 or-map true b c f e = refl
@@ -70,6 +82,14 @@ pub either-yes : (w c d : Bool) → w && c || not w && d ≡ true → w ≡ true
 either-yes true true d e f = refl
 either-yes true false d e f = e
 either-yes false c d e f = absurd (true≢false (sym f))
+
+pub either-no : (w c d : Bool) → w && c || not w && d ≡ true → w ≡ false → d ≡ true
+either-no true c d e f = absurd (true≢false f)
+either-no false c d e f = e
+
+pub either-is : (w c d : Bool) → (w ≡ true → c ≡ true) → (w ≡ false → d ≡ true) → w && c || not w && d ≡ true
+either-is true c d f g = rw (f refl)
+either-is false c d f g = rw (g refl)
 
 pub either-map : (w c d x : Bool) → (c ≡ true → x ≡ true) → w && c || not w && d ≡ true → w && x || not w && d ≡ true
 either-map true true d x f e = rw (f refl)

@@ -13,7 +13,7 @@ use lib.Dec.{ltb}
 use lib.ListN.{length, getD, take, drop, set, replicate, length-take, length-append, length-replicate, length-drop, take-append-drop, drop-of-length-le, List·getD-append, getD-replicate}
 use lib.Seq.{take-suc, drop-cons, set-append-seam, length-take-le, getD-append-add, getD-at, getD-drop, take-at, set-at, append-snoc, take-all}
 use Rattle.lists.proofs.Cases.{byEq}
-use Rattle.lists.specs.Scan.{all, least, first, filter, padTo, without, upTo, tabulate, countTo}
+use Rattle.lists.specs.Scan.{all, least, filter, padTo, without, upTo, tabulate, countTo}
 
 module _ (p : ℕ → Bool) where
   pub all-none : all p 0 ≡ true
@@ -66,20 +66,7 @@ module _ (p : ℕ → Bool) where
   pub least-end : (n i : ℕ) → n ≤ i → i ≤ n → least p i ≡ i → i ≡ least p n
   least-end n i a b e = sym e ∙ ap (least p) (le-antisymm b a)
 
-module _ {A : Type 0} (p : A → Bool) (l : List A) (i : ℕ) (d : A) (h : i < length l) where
-  pub first-here : p (getD l i d) ≡ true → first p (drop i l) ≡ 0
-  unfolding first
-  first-here e = rw (drop-cons l i d h, e)
-
-  pub first-later : p (getD l i d) ≡ false → first p (drop i l) ≡ suc (first p (drop (i + 1) l))
-  unfolding first
-  first-later e = rw (add-one, drop-cons l i d h, e)
-
 module _ {A : Type 0} (p : A → Bool) where
-  pub filter-none : filter p [] ≡ []
-  unfolding filter
-  filter-none = refl
-
   pub filter-append : (a b : List A) → filter p (a ++ b) ≡ filter p a ++ filter p b
   unfolding filter
   filter-append [] b = refl
@@ -107,9 +94,6 @@ module _ {A : Type 0} (p : A → Bool) where
       go : (c : Bool) (u : List A) → length u ≤ length l → length (cond c (x ∷ u) u) ≤ suc (length l)
       go true u h = omega arith
       go false u h = omega arith
-
-  pub length-filter-take : (i : ℕ) (l : List A) → length (filter p (take i l)) ≤ i
-  length-filter-take i l = omega (arith, length-filter (take i l), length-take i l)
 
 module _ {A : Type 0} (n : ℕ) (d : A) where
   pub pad-none : padTo n d [] ≡ replicate n d

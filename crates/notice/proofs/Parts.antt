@@ -4,35 +4,52 @@ use Prim.Native.Nat.{ℕ, _+_}
 use mathlib.Core.Path.{_≡_, refl, _∙_}
 use mathlib.Core.Bool.{true, false, not, _&&_}
 use lib.Dec.{eqb}
-use Rattle.lists.proofs.Cases.{byBool}
+use Rattle.lists.proofs.Cases.{cond-elim}
 use Rattle.table.specs.declared.Job.{Job}
+use Rattle.table.specs.declared.Machine.{Machine}
 use Rattle.table.specs.declared.Table.{Table}
-use Rattle.table.specs.Views.{jobAt, nodeAt, withJob, enter}
+use Rattle.table.specs.Views.{jobAt, nodeAt, withJob, withNode, enter}
 use Rattle.table.specs.Messages.{sift}
-use Rattle.table.specs.Parts.{opened, returned}
+use Rattle.table.specs.Parts.{opened, waiting, returned}
 use Rattle.table.proofs.Views.{views}
 use Rattle.notice.specs.Notice.{informed, unwaited, reclaimed, quieted, lost, reissueOne}
 
--- ---- no job has changed before the loop
+-- ---- the machine is told
 
-job-informed : (t : Table) (a b j : ℕ) → jobAt (informed t a b) j ≡ jobAt t j
-unfolding informed sift
-job-informed t a b j = simp views
+module _ (t : Table) (a b : ℕ) where
+  pub job-informed : (j : ℕ) → jobAt (informed t a b) j ≡ jobAt t j
+  unfolding informed sift
+  job-informed j = simp views
 
-job-reclaimed : (t : Table) (a b j : ℕ) → jobAt (reclaimed t a b) j ≡ jobAt t j
-unfolding reclaimed returned enter
-job-reclaimed t a b j =
-    byBool (not (eqb (nodeAt t a .«reserved_replica») 0) && eqb (nodeAt t a .«reserved_thief») b)
-    (λ e. rw (e, reclaimed) (simp views))
-    (λ e. rw (e, reclaimed) refl)
+  pub node-informed : (m : ℕ) → nodeAt (informed t a b) m ≡ nodeAt t m
+  unfolding informed sift
+  node-informed m = simp views
 
-job-unwaited : (t : Table) (a b j : ℕ) → jobAt (unwaited t a b) j ≡ jobAt t j
-unfolding unwaited
-job-unwaited t a b j = byBool (eqb (nodeAt t a .waits) (b + 1)) (λ e. rw (e, unwaited) (simp views)) (λ e. rw (e, unwaited) refl)
+  pub entries-informed : informed t a b .entries ≡ t .entries
+  unfolding informed sift
+  entries-informed = simp views
 
-pub job-quieted : (t : Table) (a b j : ℕ) → jobAt (quieted t a b) j ≡ jobAt t j
+-- ---- reserved copy and wait: a view that they do not change
+
+module _ {A : Type 0} (f : Table → A) (t : Table) (a b : ℕ) where
+  pub same-reclaimed : f (returned t a) ≡ f t → f (reclaimed t a b) ≡ f t
+  unfolding reclaimed
+  same-reclaimed e = cond-elim (λ u. f u ≡ f t) (not (eqb (nodeAt t a .«reserved_replica») 0) && eqb (nodeAt t a .«reserved_thief») b) _ t e refl
+
+  pub same-unwaited : f (withNode t a (waiting (nodeAt t a) 0)) ≡ f t → f (unwaited t a b) ≡ f t
+  unfolding unwaited
+  same-unwaited e = cond-elim (λ u. f u ≡ f t) (eqb (nodeAt t a .waits) (b + 1)) _ t e refl
+
+-- one that is neither a pool's nor machine a's
+pub same-quieted : {A : Type 0} (f : Table → A) (t : Table) (a b : ℕ) → ((u : Table) → f (returned u a) ≡ f u) → ((u : Table) (v : Machine) → f (withNode u a v) ≡ f u)
+    → f (quieted t a b) ≡ f (informed t a b)
 unfolding quieted
-job-quieted t a b j = job-unwaited (reclaimed (informed t a b) a b) a b j ∙ job-reclaimed (informed t a b) a b j ∙ job-informed t a b j
+same-quieted f t a b p q = same-unwaited f (reclaimed (informed t a b) a b) a b (q _ _) ∙ same-reclaimed f (informed t a b) a b (p (informed t a b))
+
+-- no job has changed before the loop
+pub job-quieted : (t : Table) (a b j : ℕ) → jobAt (quieted t a b) j ≡ jobAt t j
+unfolding returned enter
+job-quieted t a b j = same-quieted (λ u. jobAt u j) t a b (λ u. simp views) (λ u v. simp views) ∙ job-informed t a b j
 
 -- ---- one turn
 

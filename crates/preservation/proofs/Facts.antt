@@ -4,11 +4,13 @@
 use Prim.Native.Nat.{ℕ, _≤_, _<_, max}
 use mathlib.Core.Path.{_≡_, refl, sym, ap, _∙_}
 use mathlib.Core.Logic.{_≢_}
-use mathlib.Core.Bool.{true, false, not, _&&_, _||_, false≢true}
+use mathlib.Core.Bool.{Bool, true, false, not, _&&_, _||_, false≢true}
+use mathlib.Core.List.{List, [], _∷_}
 use native.Mathlib.Omega.{arith}
 use borrow.Author.Tests.{eqb-true, leb-true, ltb-true, le-leb, lt-ltb, eq-eqb, ne-eqb}
 use lib.Dec.{eqb, leb, ltb}
-use Rattle.lists.proofs.Cases.{byBool, byEq, and-left, and-right, or-right, or-elim, and-both, and-three, either-yes}
+use Rattle.lists.proofs.Cases.{byBool, byEq, byOr, and-left, and-right, or-right, or-elim, and-both, and-three, either-yes, either-no}
+use Rattle.lists.proofs.Chains.{chain-apart, chain-joined}
 use Rattle.lists.proofs.Count.{Every, least-at}
 use Rattle.table.specs.declared.Table.{Table}
 use Rattle.table.specs.declared.Job.{Job}
@@ -16,23 +18,30 @@ use Rattle.table.specs.declared.Machine.{Machine}
 use Rattle.table.specs.declared.Message.{Message}
 use Rattle.table.specs.Views.{noJob, noMachine, jobAt, nodeAt, poolAt, toldAt, flight}
 use Rattle.table.specs.Messages.{lowest}
-use Rattle.table.specs.Parts.{opened, moved, placed, priced, reserve, release, running, waiting}
+use Rattle.table.specs.Parts.{opened, moved, placed, priced, reserve, release, running, waiting, FISH, RESULT}
 use Rattle.elements.specs.Elements.{copyOk, emptyJob, admittedOk, placeOk, jobOk, emptyNode, reservedOk, runningOk, nodeOk, toldOk, cellOk}
 use Rattle.slots.specs.Slots.{kindOk, endsOk, carriesOk, thiefOk, withCopy, withThief, toRoot, messageOk}
 use Rattle.validity.specs.Validity.{bound}
 use Rattle.preservation.proofs.Empty.{empty-job}
 
+-- a test and those after it in its chain
+abbrev Holds : Bool → List Bool → Type 0
+Holds a bs = (a ≡ true) × Every (λ b. b ≡ true) bs
+
 -- ---- a copy
 
 module _ (E B j r : ℕ) (c : copyOk E B j r ≡ true) where
+  copy-parts : Holds (ltb j E) (leb 1 r ∷ leb r B ∷ [])
+  copy-parts = chain-apart (ltb j E) (leb 1 r ∷ leb r B ∷ []) c
+
   pub copy-job : j < E
-  copy-job = ltb-true _ _ (and-left (ltb j E) (leb 1 r) (and-left (ltb j E && leb 1 r) (leb r B) c))
+  copy-job = ltb-true _ _ (copy-parts .0)
 
   pub copy-some : 1 ≤ r
-  copy-some = leb-true _ _ (and-right (ltb j E) (leb 1 r) (and-left (ltb j E && leb 1 r) (leb r B) c))
+  copy-some = leb-true _ _ (copy-parts .1 .0)
 
   pub copy-most : r ≤ B
-  copy-most = leb-true _ _ (and-right (ltb j E && leb 1 r) (leb r B) c)
+  copy-most = leb-true _ _ (copy-parts .1 .1 .0)
 
 pub copy-is : (E B j r : ℕ) → j < E → 1 ≤ r → r ≤ B → copyOk E B j r ≡ true
 copy-is E B j r a b c = rw (lt-ltb j E a, le-leb 1 r b, le-leb r B c)
@@ -44,50 +53,54 @@ bound-pos t = omega arith
 -- ---- a message in flight
 
 module _ (M E B : ℕ) (x : Message) (g : messageOk M E B x ≡ true) where
-  three : kindOk x && endsOk M x && carriesOk E B x ≡ true
-  three = and-left (kindOk x && endsOk M x && carriesOk E B x) (thiefOk M x) g
+  parts : Holds (kindOk x) (endsOk M x ∷ carriesOk E B x ∷ thiefOk M x ∷ [])
+  parts = chain-apart (kindOk x) (endsOk M x ∷ carriesOk E B x ∷ thiefOk M x ∷ []) g
 
-  two : kindOk x && endsOk M x ≡ true
-  two = and-left (kindOk x && endsOk M x) (carriesOk E B x) three
+  kinds : Holds (leb FISH (x .kind)) (leb (x .kind) RESULT ∷ (eqb (x .kind) RESULT || eqb (x .price) 0) ∷ [])
+  kinds = chain-apart (leb FISH (x .kind)) (leb (x .kind) RESULT ∷ (eqb (x .kind) RESULT || eqb (x .price) 0) ∷ []) (parts .0)
 
-  ends : ltb (x .from) M && ltb (x .to) M ≡ true
-  ends = and-left (ltb (x .from) M && ltb (x .to) M) (not (toRoot (x .kind)) || eqb (x .to) 0) (and-right (kindOk x) (endsOk M x) two)
+  ends : Holds (ltb (x .from) M) (ltb (x .to) M ∷ (not (toRoot (x .kind)) || eqb (x .to) 0) ∷ [])
+  ends = chain-apart (ltb (x .from) M) (ltb (x .to) M ∷ (not (toRoot (x .kind)) || eqb (x .to) 0) ∷ []) (parts .1 .0)
 
-  kinds : leb 1 (x .kind) && leb (x .kind) 9 ≡ true
-  kinds = and-left (leb 1 (x .kind) && leb (x .kind) 9) (eqb (x .kind) 9 || eqb (x .price) 0) (and-left (kindOk x) (endsOk M x) two)
+  pub kind-some : FISH ≤ x .kind
+  kind-some = leb-true _ _ (kinds .0)
 
-  pub kind-some : 1 ≤ x .kind
-  kind-some = leb-true _ _ (and-left (leb 1 (x .kind)) (leb (x .kind) 9) kinds)
+  pub kind-most : x .kind ≤ RESULT
+  kind-most = leb-true _ _ (kinds .1 .0)
 
-  pub kind-most : x .kind ≤ 9
-  kind-most = leb-true _ _ (and-right (leb 1 (x .kind)) (leb (x .kind) 9) kinds)
+  pub no-price : x .kind ≢ RESULT → x .price ≡ 0
+  no-price n = eqb-true _ _ (or-elim (eqb (x .kind) RESULT) (eqb (x .price) 0) (kinds .1 .1 .0) (ne-eqb _ _ n))
 
   pub from-in : x .from < M
-  from-in = ltb-true _ _ (and-left (ltb (x .from) M) (ltb (x .to) M) ends)
+  from-in = ltb-true _ _ (ends .0)
 
   pub to-in : x .to < M
-  to-in = ltb-true _ _ (and-right (ltb (x .from) M) (ltb (x .to) M) ends)
+  to-in = ltb-true _ _ (ends .1 .0)
 
   -- a REQ, ACK or RESULT is to the root
   pub to-root : toRoot (x .kind) ≡ true → x .to ≡ 0
-  to-root w =
-      eqb-true _ _
-      (or-elim (not (toRoot (x .kind))) (eqb (x .to) 0)
-      (and-right (ltb (x .from) M && ltb (x .to) M) (not (toRoot (x .kind)) || eqb (x .to) 0) (and-right (kindOk x) (endsOk M x) two))
-      (ap not w))
+  to-root w = eqb-true _ _ (or-elim (not (toRoot (x .kind))) (eqb (x .to) 0) (ends .1 .1 .0) (ap not w))
 
   pub copy-in : withCopy (x .kind) ≡ true → copyOk E B (x .job) (x .replica) ≡ true
-  copy-in w =
-      either-yes (withCopy (x .kind)) (copyOk E B (x .job) (x .replica)) (eqb (x .job) 0 && eqb (x .replica) 0)
-      (and-right (kindOk x && endsOk M x) (carriesOk E B x) three) w
+  copy-in = either-yes (withCopy (x .kind)) (copyOk E B (x .job) (x .replica)) (eqb (x .job) 0 && eqb (x .replica) 0) (parts .1 .1 .0)
+
+  pub no-copy : withCopy (x .kind) ≡ false → (x .job ≡ 0) × (x .replica ≡ 0)
+  no-copy w =
+      let a = eqb (x .job) 0 in
+      let b = eqb (x .replica) 0 in
+      let z = either-no (withCopy (x .kind)) (copyOk E B (x .job) (x .replica)) (a && b) (parts .1 .1 .0) w in
+      (eqb-true _ _ (and-left a b z), eqb-true _ _ (and-right a b z))
 
   pub thief-in : withThief (x .kind) ≡ true → x .thief < M
-  thief-in w =
-      ltb-true _ _
-      (either-yes (withThief (x .kind)) (ltb (x .thief) M) (eqb (x .thief) 0)
-      (and-right (kindOk x && endsOk M x && carriesOk E B x) (thiefOk M x) g) w)
+  thief-in w = ltb-true _ _ (either-yes (withThief (x .kind)) (ltb (x .thief) M) (eqb (x .thief) 0) (parts .1 .1 .1 .0) w)
+
+  pub no-thief : withThief (x .kind) ≡ false → x .thief ≡ 0
+  no-thief w = eqb-true _ _ (either-no (withThief (x .kind)) (ltb (x .thief) M) (eqb (x .thief) 0) (parts .1 .1 .1 .0) w)
 
 -- ---- a job
+
+pub job-is : (M E B j : ℕ) (v : Job) → admittedOk v ≡ true → copyOk E B j (v .replica) ≡ true → placeOk M v ≡ true → jobOk M E B j v ≡ true
+job-is M E B j v a c p = or-right (emptyJob v) _ (and-three (admittedOk v) (copyOk E B j (v .replica)) (placeOk M v) a c p)
 
 module _ (M E B j : ℕ) (v : Job) where
   -- one with a replica number is admitted
@@ -101,37 +114,30 @@ module _ (M E B j : ℕ) (v : Job) where
   pub state-job : v .state ≢ 0 → emptyJob v ≡ false
   state-job h = rw (ne-eqb (v .state) 0 h)
 
-  -- one that is not admitted has no replica number
-  pub none-job : emptyJob v ≡ true → v .replica ≡ 0
-  none-job e = ap (λ (w : Job). w .replica) (empty-job v e)
-
   module _ (g : jobOk M E B j v ≡ true) (n : emptyJob v ≡ false) where
-    whole : admittedOk v && copyOk E B j (v .replica) && placeOk M v ≡ true
-    whole = or-elim (emptyJob v) (admittedOk v && copyOk E B j (v .replica) && placeOk M v) g n
-
-    front : admittedOk v && copyOk E B j (v .replica) ≡ true
-    front = and-left (admittedOk v && copyOk E B j (v .replica)) (placeOk M v) whole
+    whole : Holds (admittedOk v) (copyOk E B j (v .replica) ∷ placeOk M v ∷ [])
+    whole = chain-apart (admittedOk v) (copyOk E B j (v .replica) ∷ placeOk M v ∷ []) (or-elim (emptyJob v) _ g n)
 
     pub job-state : admittedOk v ≡ true
-    job-state = and-left (admittedOk v) (copyOk E B j (v .replica)) front
+    job-state = whole .0
 
     pub job-copy : copyOk E B j (v .replica) ≡ true
-    job-copy = and-right (admittedOk v) (copyOk E B j (v .replica)) front
+    job-copy = whole .1 .0
 
     pub job-place : placeOk M v ≡ true
-    job-place = and-right (admittedOk v && copyOk E B j (v .replica)) (placeOk M v) whole
+    job-place = whole .1 .1 .0
 
     pub job-moved : (f t : ℕ) → f < M → t < M → jobOk M E B j (moved v f t) ≡ true
     unfolding moved
-    job-moved f t a b = or-right (emptyJob (moved v f t)) _ (and-both (admittedOk v && copyOk E B j (v .replica)) _ front (rw (lt-ltb f M a, lt-ltb t M b)))
+    job-moved f t a b = job-is M E B j (moved v f t) job-state job-copy (rw (lt-ltb f M a, lt-ltb t M b))
 
     pub job-placed : (f : ℕ) → f < M → jobOk M E B j (placed v f) ≡ true
     unfolding placed
-    job-placed f a = or-right (emptyJob (placed v f)) _ (and-both (admittedOk v && copyOk E B j (v .replica)) _ front (rw (lt-ltb f M a)))
+    job-placed f a = job-is M E B j (placed v f) job-state job-copy (rw (lt-ltb f M a))
 
     pub job-priced : (p : ℕ) → jobOk M E B j (priced v p) ≡ true
     unfolding priced
-    job-priced p = or-right (emptyJob (priced v p)) _ (and-both (copyOk E B j (v .replica)) (placeOk M v) job-copy job-place)
+    job-priced p = job-is M E B j (priced v p) refl job-copy job-place
 
 pub job-opened : (M E B j r : ℕ) → 0 < M → copyOk E B j r ≡ true → jobOk M E B j (opened r) ≡ true
 unfolding opened
@@ -139,99 +145,92 @@ job-opened M E B j r a c = rw (c, lt-ltb 0 M a)
 
 -- ---- a machine
 
+pub node-is : (M E B m : ℕ) (n : Machine) → m < M → n .alive ≡ 1 → n .waits ≤ M → reservedOk M E B n ≡ true → runningOk E B n ≡ true → nodeOk M E B m n ≡ true
+node-is M E B m n a b w r u =
+    or-right (emptyNode n) _
+    (chain-joined (ltb m M) (eqb (n .alive) 1 ∷ leb (n .waits) M ∷ reservedOk M E B n ∷ runningOk E B n ∷ []) (lt-ltb m M a) (eq-eqb _ _ b, (le-leb _ _ w, (r, (u, tt)))))
+
 -- one that is not alive is empty
 pub node-dead : (M E B m : ℕ) (n : Machine) → nodeOk M E B m n ≡ true → n .alive ≢ 1 → emptyNode n ≡ true
 node-dead M E B m n g d =
-    let a = ltb m M in
-    let b = eqb (n .alive) 1 in
-    let w = leb (n .waits) M in
-    let r = reservedOk M E B n in
-    let u = runningOk E B n in
     byBool (emptyNode n) (λ e. e)
-    (λ e. absurd (d (eqb-true (n .alive) 1 (and-right a b (and-left (a && b) w (and-left (a && b && w) r (and-left (a && b && w && r) u (or-elim (emptyNode n) _ g e))))))))
+    (λ e. absurd (d (eqb-true (n .alive) 1
+    (chain-apart (ltb m M) (eqb (n .alive) 1 ∷ leb (n .waits) M ∷ reservedOk M E B n ∷ runningOk E B n ∷ []) (or-elim (emptyNode n) _ g e) .1 .0))))
 
 module _ (M E B m : ℕ) (n : Machine) (g : nodeOk M E B m n ≡ true) (al : n .alive ≡ 1) where
-  full : ltb m M && eqb (n .alive) 1 && leb (n .waits) M && reservedOk M E B n && runningOk E B n ≡ true
-  full = or-elim (emptyNode n) _ g (rw (ne-eqb (n .alive) 0 (λ e. omega arith)))
-
-  pub runs : runningOk E B n ≡ true
-  runs = and-right (ltb m M && eqb (n .alive) 1 && leb (n .waits) M && reservedOk M E B n) (runningOk E B n) full
-
-  rest : ltb m M && eqb (n .alive) 1 && leb (n .waits) M && reservedOk M E B n ≡ true
-  rest = and-left (ltb m M && eqb (n .alive) 1 && leb (n .waits) M && reservedOk M E B n) (runningOk E B n) full
-
-  pub reserved : reservedOk M E B n ≡ true
-  reserved = and-right (ltb m M && eqb (n .alive) 1 && leb (n .waits) M) (reservedOk M E B n) rest
-
-  head : ltb m M && eqb (n .alive) 1 && leb (n .waits) M ≡ true
-  head = and-left (ltb m M && eqb (n .alive) 1 && leb (n .waits) M) (reservedOk M E B n) rest
-
-  is : ltb m M && eqb (n .alive) 1 ≡ true
-  is = and-left (ltb m M && eqb (n .alive) 1) (leb (n .waits) M) head
+  full : Holds (ltb m M) (eqb (n .alive) 1 ∷ leb (n .waits) M ∷ reservedOk M E B n ∷ runningOk E B n ∷ [])
+  full =
+      chain-apart (ltb m M) (eqb (n .alive) 1 ∷ leb (n .waits) M ∷ reservedOk M E B n ∷ runningOk E B n ∷ [])
+      (or-elim (emptyNode n) _ g (rw (ne-eqb (n .alive) 0 (λ e. omega arith))))
 
   pub node-in : m < M
-  node-in = ltb-true _ _ (and-left (ltb m M) (eqb (n .alive) 1) is)
+  node-in = ltb-true _ _ (full .0)
 
   pub node-waits : n .waits ≤ M
-  node-waits = leb-true _ _ (and-right (ltb m M && eqb (n .alive) 1) (leb (n .waits) M) head)
+  node-waits = leb-true _ _ (full .1 .1 .0)
+
+  pub reserved : reservedOk M E B n ≡ true
+  reserved = full .1 .1 .1 .0
+
+  pub runs : runningOk E B n ≡ true
+  runs = full .1 .1 .1 .1 .0
 
   -- the copy that is reserved, where there is one
-  held : n .«reserved_replica» ≢ 0 → copyOk E B (n .«reserved_job») (n .«reserved_replica») && ltb (n .«reserved_thief») M ≡ true
-  held h =
+  pub reserved-copy : n .«reserved_replica» ≢ 0 → copyOk E B (n .«reserved_job») (n .«reserved_replica») ≡ true
+  reserved-copy h =
       let a = eqb (n .«reserved_job») 0 in
       let b = eqb (n .«reserved_replica») 0 in
       let c = eqb (n .«reserved_thief») 0 in
-      or-elim (a && b && c) _ reserved
-      (byBool (a && b && c) (λ e. absurd (h (eqb-true _ _ (and-right a b (and-left (a && b) c e))))) (λ e. e))
-
-  pub reserved-copy : n .«reserved_replica» ≢ 0 → copyOk E B (n .«reserved_job») (n .«reserved_replica») ≡ true
-  reserved-copy h = and-left (copyOk E B (n .«reserved_job») (n .«reserved_replica»)) (ltb (n .«reserved_thief») M) (held h)
-
-  pub reserved-thief : n .«reserved_replica» ≢ 0 → n .«reserved_thief» < M
-  reserved-thief h = ltb-true _ _ (and-right (copyOk E B (n .«reserved_job») (n .«reserved_replica»)) (ltb (n .«reserved_thief») M) (held h))
+      let k = copyOk E B (n .«reserved_job») (n .«reserved_replica») in
+      let th = ltb (n .«reserved_thief») M in
+      byOr (a && b && c) (k && th) reserved
+      (λ e. absurd (h (eqb-true _ _ (chain-apart a (b ∷ c ∷ []) e .1 .0))))
+      (and-left k th)
 
   -- the copy that runs, where there is one
   pub running-copy : n .«running_replica» ≢ 0 → copyOk E B (n .«running_job») (n .«running_replica») ≡ true
   running-copy h =
       let a = eqb (n .«running_job») 0 in
       let b = eqb (n .«running_replica») 0 in
-      or-elim (a && b) _ runs (byBool (a && b) (λ e. absurd (h (eqb-true _ _ (and-right a b e)))) (λ e. e))
+      byOr (a && b) _ runs (λ e. absurd (h (eqb-true _ _ (and-right a b e)))) (λ e. e)
 
   pub node-reserve : (j r th : ℕ) → copyOk E B j r ≡ true → th < M → nodeOk M E B m (reserve n j r th) ≡ true
   unfolding reserve
   node-reserve j r th c h =
-      or-right (emptyNode (reserve n j r th)) _
-      (and-three (ltb m M && eqb (n .alive) 1 && leb (n .waits) M) (reservedOk M E B (reserve n j r th)) (runningOk E B n) head
-      (or-right (eqb j 0 && eqb r 0 && eqb th 0) _ (and-both (copyOk E B j r) (ltb th M) c (lt-ltb th M h))) runs)
+      node-is M E B m (reserve n j r th) node-in al node-waits
+      (or-right (eqb j 0 && eqb r 0 && eqb th 0) _ (and-both (copyOk E B j r) (ltb th M) c (lt-ltb th M h))) runs
 
   pub node-release : nodeOk M E B m (release n) ≡ true
   unfolding release
-  node-release = or-right (emptyNode (release n)) _ (and-three (ltb m M && eqb (n .alive) 1 && leb (n .waits) M) _ (runningOk E B n) head refl runs)
+  node-release = node-is M E B m (release n) node-in al node-waits refl runs
 
   pub node-waiting : (w : ℕ) → w ≤ M → nodeOk M E B m (waiting n w) ≡ true
   unfolding waiting
-  node-waiting w h =
-      let a = ltb m M && eqb (n .alive) 1 in
-      or-right (emptyNode (waiting n w)) _
-      (and-three (a && leb w M) (reservedOk M E B n) (runningOk E B n) (and-both a (leb w M) is (le-leb w M h)) reserved runs)
+  node-waiting w h = node-is M E B m (waiting n w) node-in al h reserved runs
 
   pub node-running : (j r : ℕ) → copyOk E B j r ≡ true → nodeOk M E B m (running n j r) ≡ true
   unfolding running
-  node-running j r c =
-      or-right (emptyNode (running n j r)) _
-      (and-both (ltb m M && eqb (n .alive) 1 && leb (n .waits) M && reservedOk M E B n) _ rest (or-right (eqb j 0 && eqb r 0) _ c))
+  node-running j r c = node-is M E B m (running n j r) node-in al node-waits reserved (or-right (eqb j 0 && eqb r 0) _ c)
 
   pub node-idle : nodeOk M E B m (running n 0 0) ≡ true
   unfolding running
-  node-idle =
-      or-right (emptyNode (running n 0 0)) _
-      (and-both (ltb m M && eqb (n .alive) 1 && leb (n .waits) M && reservedOk M E B n) _ rest refl)
+  node-idle = node-is M E B m (running n 0 0) node-in al node-waits reserved refl
 
 -- ---- a told flag
 
--- who is told of is not alive
-pub told-dead : (M al m d x : ℕ) → toldOk M al m d x ≡ true → x ≢ 0 → al ≡ 0
-told-dead M al m d x g h = eqb-true _ _ (and-right (eqb x 1 && ltb m M && ltb d M) (eqb al 0) (or-elim (eqb x 0) _ g (ne-eqb x 0 h)))
+-- who is told of is a machine that is not alive
+module _ (M al m d x : ℕ) (g : toldOk M al m d x ≡ true) (h : x ≢ 0) where
+  flag : Holds (eqb x 1) (ltb m M ∷ ltb d M ∷ eqb al 0 ∷ [])
+  flag = chain-apart (eqb x 1) (ltb m M ∷ ltb d M ∷ eqb al 0 ∷ []) (or-elim (eqb x 0) _ g (ne-eqb x 0 h))
+
+  pub told-is : x ≡ 1
+  told-is = eqb-true _ _ (flag .0)
+
+  pub told-in : (m < M) × (d < M)
+  told-in = (ltb-true _ _ (flag .1 .0), ltb-true _ _ (flag .1 .1 .0))
+
+  pub told-dead : al ≡ 0
+  told-dead = eqb-true _ _ (flag .1 .1 .1 .0)
 
 -- ---- a pool's cell
 
@@ -296,9 +295,10 @@ pub record MachineFacts (t : Table) (m : ℕ) (n : Machine) : Type 0 where
   pub running-job : n .«running_job» < 64
   pub running-replica : n .«running_replica» ≤ bound t
   pub running-entry : n .«running_replica» ≢ 0 → n .«running_job» < t .entries
-  -- a dead machine has no reserved and no running copy, and waits on nobody
-  pub dead-reserved : n .alive ≡ 0 → n .«reserved_replica» ≡ 0
-  pub dead-running : n .alive ≡ 0 → n .«running_replica» ≡ 0
+  -- where there is none, its job and thief are 0 too
+  pub unreserved : n .«reserved_replica» ≡ 0 → (n .«reserved_job» ≡ 0) × (n .«reserved_thief» ≡ 0)
+  pub idle : n .«running_replica» ≡ 0 → n .«running_job» ≡ 0
+  -- a dead machine has no copy and waits on nobody
   pub dead : n .alive ≡ 0 → n ≡ noMachine
 
 -- x is a message in flight

@@ -22,6 +22,7 @@ use Rattle.victim_handlers.specs.VictimHandlers.{noWork, grant, onFish, onAuth,
 use Rattle.thief_handlers.specs.ThiefHandlers.{onSchedule, onNoWork}
 use Rattle.root_handlers.specs.RootHandlers.{reply, onReq, onAck, onResult}
 use Rattle.handlers.specs.Handlers.{handle}
+use Rattle.handlers.proofs.Cases.{by-kind}
 use Rattle.preservation.proofs.Ok.{Ok, machines-some, machines-most, entries-most}
 use Rattle.preservation.proofs.Facts.{copy-job, copy-some, from-in, to-in, copy-in, thief-in, some-job, state-job, job-moved, job-placed, job-priced, reserved-copy, node-reserve, node-release, node-waiting, cell-copy, cell-enter, lowest-in}
 use Rattle.preservation.proofs.Updates.{wide, ok-job, ok-node, ok-pool, ok-send}
@@ -273,15 +274,6 @@ module _ (t : Table) (x : Message) (s : Sized t) (o : Ok t) (l : t .«in_flight�
 module _ (t : Table) (x : Message) (s : Sized t) (o : Ok t) (l : t .«in_flight» < 128)
     (g : messageOk (t .machines) (t .entries) (bound t) x ≡ true) (al : nodeAt t (x .to) .alive ≡ 1) where
   pub ok-handle : Ok (handle t x)
-  unfolding handle
   ok-handle =
-      byBool (eqb (x .kind) 1) (λ a. rw (a, handle) (ok-fish t x s o l g al))
-      (λ a1. byBool (eqb (x .kind) 2) (λ a. rw (a1, a, handle) (ok-req t x s o l g (eqb-true _ _ a)))
-      (λ a2. byBool (eqb (x .kind) 3) (λ a. rw (a1, a2, a, handle) (ok-auth t x s o l g al (eqb-true _ _ a)))
-      (λ a3. byBool (eqb (x .kind) 4) (λ a. rw (a1, a2, a3, a, handle) (ok-denied t x s o l g al (eqb-true _ _ a)))
-      (λ a4. byBool (eqb (x .kind) 5) (λ a. rw (a1, a2, a3, a4, a, handle) (ok-obsolete t x s o l g al (eqb-true _ _ a)))
-      (λ a5. byBool (eqb (x .kind) 6) (λ a. rw (a1, a2, a3, a4, a5, a, handle) (ok-schedule t x s o l g al (eqb-true _ _ a)))
-      (λ a6. byBool (eqb (x .kind) 7) (λ a. rw (a1, a2, a3, a4, a5, a6, a, handle) (ok-ack t x s o l g al (eqb-true _ _ a)))
-      (λ a7. byBool (eqb (x .kind) 8) (λ a. rw (a1, a2, a3, a4, a5, a6, a7, a, handle) (ok-idle t x s o l g al))
-      (λ a8. byBool (eqb (x .kind) 9) (λ a. rw (a1, a2, a3, a4, a5, a6, a7, a8, a, handle) (ok-result t x s o l g al (eqb-true _ _ a)))
-      (λ a9. rw (a1, a2, a3, a4, a5, a6, a7, a8, a9, handle) o)))))))))
+      by-kind Ok t x (λ n. o) (λ k. ok-fish t x s o l g al) (ok-req t x s o l g) (ok-auth t x s o l g al) (ok-denied t x s o l g al)
+      (ok-obsolete t x s o l g al) (ok-schedule t x s o l g al) (ok-ack t x s o l g al) (λ k. ok-idle t x s o l g al) (ok-result t x s o l g al)

@@ -5,6 +5,7 @@ pub mod Updates
 pub mod Larger
 pub mod Told
 pub mod Passed
+pub mod Closed
 pub mod Sizes
 pub mod Handled
 pub mod Accepted

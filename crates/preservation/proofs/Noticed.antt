@@ -19,6 +19,7 @@ use Rattle.table.proofs.Messages.{sized-sift}
 use Rattle.elements.specs.Elements.{copyOk}
 use Rattle.validity.specs.Validity.{bound}
 use Rattle.notice.specs.Notice.{informed, unwaited, reclaimed, quieted, lost, reissueOne, reissue, noticed}
+use Rattle.notice.proofs.Parts.{job-informed, node-informed, entries-informed}
 use Rattle.preservation.proofs.Ok.{Ok, machines-some, machines-most}
 use Rattle.preservation.proofs.Facts.{copy-job, copy-most, copy-is, state-job, job-copy}
 use Rattle.preservation.proofs.Updates.{wide, ok-sift}
@@ -98,18 +99,6 @@ module _ (t : Table) (s : Sized t) (o : Ok t) where
       (λ e. rw (e, reclaimed) o)
 
 module _ (t : Table) (s : Sized t) (a b : ℕ) where
-  node-informed : (k : ℕ) → nodeAt (informed t a b) k ≡ nodeAt t k
-  unfolding informed sift
-  node-informed k = simp views
-
-  job-informed : (k : ℕ) → jobAt (informed t a b) k ≡ jobAt t k
-  unfolding informed sift
-  job-informed k = simp views
-
-  entries-informed : informed t a b .entries ≡ t .entries
-  unfolding informed sift
-  entries-informed = simp views
-
   -- reserved copy and wait together
   quieted-frame : a < 16 → Frame (informed t a b) (quieted t a b)
   unfolding quieted
@@ -131,7 +120,7 @@ module _ (t : Table) (s : Sized t) (a b : ℕ) where
       let h : a < 16 = omega (arith, machines-most t (o .sizes)) in
       let u = informed t a b in
       let us = sized-informed t s a b in
-      let ua : nodeAt u a .alive ≡ 1 = ap (λ (n : Machine). n .alive) (node-informed a) ∙ al in
+      let ua : nodeAt u a .alive ≡ 1 = ap (λ (n : Machine). n .alive) (node-informed t a b a) ∙ al in
       let uo = ok-reclaimed u us (ok-informed t s o a b am bm d) a b h ua in
       ok-unwaited (reclaimed u a b) (sized-reclaimed u us a b) uo a b h (reclaimed-frame u a b us h .alive a ∙ ua)
 
@@ -189,12 +178,12 @@ module _ (t : Table) (s : Sized t) (o : Ok t) (b : ℕ) (bm : b < t .machines) (
       ok-reissue u b (sized-quieted t s 0 b) uo
       (λ j h e.
       let v = jobAt t j in
-      let jb : jobAt u j ≡ v = f .job j ∙ job-informed t s 0 b j in
+      let jb : jobAt u j ≡ v = f .job j ∙ job-informed t 0 b j in
       let l : lost v b ≡ true = ap (λ (w : Job). lost w b) (sym jb) ∙ e in
       let st : v .state ≡ 1 = eqb-true _ _ (and-left (eqb (v .state) 1) (eqb (v .holder) b || eqb (v .moving) 1 && eqb (v .thief) b) l) in
       let c = job-copy (t .machines) (t .entries) (bound t) j v (o .job j h) (state-job (t .machines) (t .entries) (bound t) j v (λ z. omega arith)) in
       let rp : jobAt u j .replica ≡ v .replica = ap (λ (w : Job). w .replica) jb in
-      let sz : u .entries ≡ t .entries = f .size ∙ entries-informed t s 0 b in
+      let sz : u .entries ≡ t .entries = f .size ∙ entries-informed t 0 b in
       let bd : bound u ≡ suc (bound t) = f .most ∙ bound-informed in
       copy-is (u .entries) (bound u) j (jobAt u j .replica + 1)
       (omega (arith, copy-job (t .entries) (bound t) j (v .replica) c)) (omega arith) (omega (arith, copy-most (t .entries) (bound t) j (v .replica) c)))

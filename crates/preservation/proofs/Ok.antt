@@ -42,29 +42,28 @@ pub record Ok (t : Table) : Type 0 where
 
 -- ---- the slots against the list in flight and its padding
 
-abbrev slot : Table → ℕ → Bool
+abbrev pub slot : Table → ℕ → Bool
 slot t i = slotOk (t .machines) (t .entries) (bound t) (t .«in_flight») i (nodeAt t (messageAt t i .to) .alive) (messageAt t i)
 
 module _ (t : Table) (s : Sized t) where
-  from-slots : messagesOk t (bound t) ≡ true → Every (λ x. inFlightOk t x ≡ true) (flight t)
-  unfolding messagesOk
+  from-slots : ((i : ℕ) → i < 128 → slot t i ≡ true) → Every (λ x. inFlightOk t x ≡ true) (flight t)
   from-slots e =
       let n = length-flight t s in
       every-index (λ x. inFlightOk t x ≡ true) noMessage (flight t) (λ i h.
       let l : i < t .«in_flight» = omega arith in
-      let c : slot t i ≡ true = all-at (slot t) 128 i e (omega arith) in
+      let c : slot t i ≡ true = e i (omega arith) in
       let g : inFlightOk t (messageAt t i) ≡ true = rw (lt-leb (t .«in_flight») i l) at c in
       rw (message-flight t s i l) g)
 
-  from-empty : messagesOk t (bound t) ≡ true → Padded t
-  unfolding messagesOk Padded padTo flight messageAt
+  from-empty : ((i : ℕ) → i < 128 → slot t i ≡ true) → Padded t
+  unfolding Padded padTo flight messageAt
   from-empty e =
       let n = t .«in_flight» in
       let d = length-drop n (t .messages) in
       let f = length-take-le n (t .messages) (omega arith) in
       let r : drop n (t .messages) ≡ replicate (length (drop n (t .messages))) noMessage =
       same-all noMessage (drop n (t .messages)) (λ i h.
-      let c : slot t (n + i) ≡ true = all-at (slot t) 128 (n + i) e (omega arith) in
+      let c : slot t (n + i) ≡ true = e (n + i) (omega arith) in
       let g : emptyMessage (getD (t .messages) (n + i) noMessage) ≡ true = rw (le-leb n (n + i) (omega arith)) at c in
       getD-drop n (t .messages) i noMessage ∙ empty-message (getD (t .messages) (n + i) noMessage) g) in
       let q : length (drop n (t .messages)) ≡ 128 - length (take n (t .messages)) = omega arith in
@@ -81,82 +80,75 @@ module _ (t : Table) (s : Sized t) (m : Every (λ x. inFlightOk t x ≡ true) (f
       ∙ getD-append-add (flight t) (replicate (128 - length (flight t)) noMessage) (i - length (flight t)) noMessage
       ∙ getD-same (128 - length (flight t)) (i - length (flight t)) noMessage
 
-  to-slots : messagesOk t (bound t) ≡ true
-  unfolding messagesOk
-  to-slots = all-intro (slot t) 128 (λ i h.
+  to-slots : (i : ℕ) → i < 128 → slot t i ≡ true
+  to-slots i h =
       let n = length-flight t s in
       byBool (leb (t .«in_flight») i)
       (λ e. rw (e, slot-past i (leb-true _ _ e)))
       (λ e.
       let l : i < t .«in_flight» = leb-false _ _ e in
       let g : inFlightOk t (getD (flight t) i noMessage) ≡ true = every-at (λ x. inFlightOk t x ≡ true) (flight t) i noMessage (omega arith) m in
-      rw e (rw (message-flight t s i l) at g)))
+      rw e (rw (message-flight t s i l) at g))
 
 -- ---- both ways
 
--- the eight tests of `tableOk`, one by one
+-- the tests of `tableOk`, element by element
 pub record Tests (t : Table) : Type 0 where
   pub sizes : sizesOk t ≡ true
-  pub bonds : bondsOk t ≡ true
-  pub jobs : jobsOk t (bound t) ≡ true
-  pub nodes : nodesOk t (bound t) ≡ true
-  pub pools : poolsOk t (bound t) ≡ true
-  pub messages : messagesOk t (bound t) ≡ true
+  pub bond : (j : ℕ) → j < 64 → bondOk (t .entries) j (bondAt t j) ≡ true
+  pub job : (j : ℕ) → j < 64 → jobOk (t .machines) (t .entries) (bound t) j (jobAt t j) ≡ true
+  pub node : (m : ℕ) → m < 16 → nodeOk (t .machines) (t .entries) (bound t) m (nodeAt t m) ≡ true
+  pub pool : (m j : ℕ) → m < 16 → j < 64 → cellOk (t .entries) (bound t) (nodeAt t m .alive) j (poolAt t m j) ≡ true
+  pub slot : (i : ℕ) → i < 128 → slot t i ≡ true
   pub root : rootOk t ≡ true
-  pub tolds : toldsOk t ≡ true
+  pub told : (m d : ℕ) → m < 16 → d < 16 → toldOk (t .machines) (nodeAt t d .alive) m d (toldAt t m d) ≡ true
 
--- all but the first
+-- all arrays
 abbrev later : Table → List Bool
 later t = bondsOk t ∷ jobsOk t (bound t) ∷ nodesOk t (bound t) ∷ poolsOk t (bound t) ∷ messagesOk t (bound t) ∷ rootOk t ∷ toldsOk t ∷ []
 
 pub tests : (t : Table) → tableOk t ≡ true → Tests t
-unfolding tableOk
+unfolding tableOk bondsOk jobsOk nodesOk messagesOk toldsOk toldRow poolsOk poolRow
 tests t e =
     let p = chain-apart (sizesOk t) (later t) e in
     record {
       sizes = p .0;
-      bonds = p .1 .0;
-      jobs = p .1 .1 .0;
-      nodes = p .1 .1 .1 .0;
-      pools = p .1 .1 .1 .1 .0;
-      messages = p .1 .1 .1 .1 .1 .0;
+      bond = λ j h. all-at (λ j. bondOk (t .entries) j (bondAt t j)) 64 j (p .1 .0) h;
+      job = λ j h. all-at (λ j. jobOk (t .machines) (t .entries) (bound t) j (jobAt t j)) 64 j (p .1 .1 .0) h;
+      node = λ m h. all-at (λ m. nodeOk (t .machines) (t .entries) (bound t) m (nodeAt t m)) 16 m (p .1 .1 .1 .0) h;
+      pool = λ m j h k. all-at (λ j. cellOk (t .entries) (bound t) (nodeAt t m .alive) j (poolAt t m j)) 64 j (all-at (poolRow t (bound t)) 16 m (p .1 .1 .1 .1 .0) h) k;
+      slot = λ i h. all-at (slot t) 128 i (p .1 .1 .1 .1 .1 .0) h;
       root = p .1 .1 .1 .1 .1 .1 .0;
-      tolds = p .1 .1 .1 .1 .1 .1 .1 .0;
+      told = λ m d h k. all-at (λ d. toldOk (t .machines) (nodeAt t d .alive) m d (toldAt t m d)) 16 d (all-at (toldRow t) 16 m (p .1 .1 .1 .1 .1 .1 .1 .0) h) k;
     }
 
 pub joined : (t : Table) → Tests t → tableOk t ≡ true
-unfolding tableOk
-joined t p = chain-joined (sizesOk t) (later t) (p .sizes) (p .bonds, (p .jobs, (p .nodes, (p .pools, (p .messages, (p .root, (p .tolds, tt)))))))
+unfolding tableOk bondsOk jobsOk nodesOk messagesOk toldsOk toldRow poolsOk poolRow
+joined t p =
+    chain-joined (sizesOk t) (later t) (p .sizes) (
+      all-intro (λ j. bondOk (t .entries) j (bondAt t j)) 64 (p .bond), (
+      all-intro (λ j. jobOk (t .machines) (t .entries) (bound t) j (jobAt t j)) 64 (p .job), (
+      all-intro (λ m. nodeOk (t .machines) (t .entries) (bound t) m (nodeAt t m)) 16 (p .node), (
+      all-intro (poolRow t (bound t)) 16 (λ m h. all-intro (λ j. cellOk (t .entries) (bound t) (nodeAt t m .alive) j (poolAt t m j)) 64 (λ j k. p .pool m j h k)), (
+      all-intro (slot t) 128 (p .slot), (
+      p .root, (
+      all-intro (toldRow t) 16 (λ m h. all-intro (λ d. toldOk (t .machines) (nodeAt t d .alive) m d (toldAt t m d)) 16 (λ d k. p .told m d h k)), tt)))))))
 
 module _ (t : Table) (s : Sized t) where
   pub ok : tableOk t ≡ true → Ok t
-  unfolding bondsOk jobsOk nodesOk toldsOk toldRow poolsOk poolRow
   ok e =
       let p = tests t e in
       record {
-        sizes = p .sizes;
-        bond = λ j h. all-at (λ j. bondOk (t .entries) j (bondAt t j)) 64 j (p .bonds) h;
-        job = λ j h. all-at (λ j. jobOk (t .machines) (t .entries) (bound t) j (jobAt t j)) 64 j (p .jobs) h;
-        node = λ m h. all-at (λ m. nodeOk (t .machines) (t .entries) (bound t) m (nodeAt t m)) 16 m (p .nodes) h;
-        pool = λ m j h k. all-at (λ j. cellOk (t .entries) (bound t) (nodeAt t m .alive) j (poolAt t m j)) 64 j (all-at (poolRow t (bound t)) 16 m (p .pools) h) k;
-        messages = from-slots t s (p .messages);
-        padded = from-empty t s (p .messages);
-        root = p .root;
-        told = λ m d h k. all-at (λ d. toldOk (t .machines) (nodeAt t d .alive) m d (toldAt t m d)) 16 d (all-at (toldRow t) 16 m (p .tolds) h) k;
+        sizes = p .sizes; bond = p .bond; job = p .job; node = p .node; pool = p .pool; root = p .root; told = p .told;
+        messages = from-slots t s (p .slot); padded = from-empty t s (p .slot);
       }
 
   pub passes : Ok t → tableOk t ≡ true
-  unfolding bondsOk jobsOk nodesOk toldsOk toldRow poolsOk poolRow
-  passes o = joined t record {
-    sizes = o .sizes;
-    bonds = all-intro (λ j. bondOk (t .entries) j (bondAt t j)) 64 (o .bond);
-    jobs = all-intro (λ j. jobOk (t .machines) (t .entries) (bound t) j (jobAt t j)) 64 (o .job);
-    nodes = all-intro (λ m. nodeOk (t .machines) (t .entries) (bound t) m (nodeAt t m)) 16 (o .node);
-    pools = all-intro (poolRow t (bound t)) 16 (λ m h. all-intro (λ j. cellOk (t .entries) (bound t) (nodeAt t m .alive) j (poolAt t m j)) 64 (λ j k. o .pool m j h k));
-    messages = to-slots t s (o .messages) (o .padded);
-    root = o .root;
-    tolds = all-intro (toldRow t) 16 (λ m h. all-intro (λ d. toldOk (t .machines) (nodeAt t d .alive) m d (toldAt t m d)) 16 (λ d k. o .told m d h k));
-  }
+  passes o =
+      joined t record {
+        sizes = o .sizes; bond = o .bond; job = o .job; node = o .node; pool = o .pool; root = o .root; told = o .told;
+        slot = to-slots t s (o .messages) (o .padded);
+      }
 
 -- ---- the counts
 

@@ -3,11 +3,13 @@
 use Prim.Native.Nat.{ℕ, _≤_, _<_}
 use mathlib.Core.Path.{_≡_, refl, sym, ap, subst}
 use mathlib.Core.Logic.{_≢_}
-use mathlib.Core.Bool.{Bool, true, false, not, _&&_, _||_}
+use mathlib.Core.Bool.{Bool, true, false, _&&_, _||_}
+use mathlib.Core.List.{[], _∷_}
 use native.Mathlib.Omega.{arith}
 use borrow.Author.Tests.{eqb-true, ltb-true, ne-eqb}
 use lib.Dec.{eqb, ltb}
-use Rattle.lists.proofs.Cases.{byBool, byEq, and-left, and-right, or-elim}
+use Rattle.lists.proofs.Cases.{byBool, byEq, byOr, and-left, and-right}
+use Rattle.lists.proofs.Chains.{chain-apart}
 use Rattle.lists.proofs.Scans.{count-most}
 use Rattle.lists.proofs.Count.{every-map, countTo-one}
 use Rattle.table.specs.declared.Job.{Job}
@@ -18,15 +20,11 @@ use Rattle.table.specs.Views.{noJob, noMachine, jobAt, nodeAt, poolAt, toldAt, 
 use Rattle.table.specs.Parts.{lives}
 use Rattle.table.proofs.Views.{Sized}
 use Rattle.elements.specs.Elements.{copyOk, emptyJob, admittedOk, placeOk, jobOk, reservedOk, runningOk, nodeOk}
-use Rattle.slots.specs.Slots.{withCopy, withThief, kindOk, endsOk, carriesOk, thiefOk, messageOk}
+use Rattle.slots.specs.Slots.{withCopy, withThief, messageOk}
 use Rattle.validity.specs.Validity.{bound}
 use Rattle.preservation.proofs.Empty.{empty-job, empty-machine}
 use Rattle.preservation.proofs.Ok.{Ok, inFlightOk, machines-some, machines-most, entries-most, used-most}
-use Rattle.preservation.proofs.Facts.{JobFacts, MachineFacts, MessageFacts, Facts, copy-job, copy-some, copy-most, bound-pos, kind-some, kind-most, from-in, to-in, to-root, copy-in, thief-in, job-copy, job-place, job-state, node-dead, node-in, node-waits, reserved, runs, told-dead, cell-copy, cell-alive, cell-most}
-
--- either test passes
-byOr : {P : Type 0} (a b : Bool) → a || b ≡ true → (a ≡ true → P) → (b ≡ true → P) → P
-byOr a b e f g = byBool a f (λ n. g (or-elim a b e n))
+use Rattle.preservation.proofs.Facts.{JobFacts, MachineFacts, MessageFacts, Facts, copy-job, copy-some, copy-most, bound-pos, kind-some, kind-most, from-in, to-in, to-root, copy-in, thief-in, job-copy, job-place, job-state, node-dead, node-in, node-waits, reserved, runs, told-dead, cell-copy, cell-alive, cell-most, no-copy, no-thief, told-is}
 
 -- ---- a copy, or none: job and replica number both 0
 
@@ -34,14 +32,15 @@ record CopyFacts (E B j r : ℕ) : Type 0 where
   job : j < 64
   most : r ≤ B
   entry : r ≢ 0 → j < E
+  none : r ≡ 0 → j ≡ 0
 
 copy-none : (E B j r : ℕ) → j ≡ 0 → r ≡ 0 → CopyFacts E B j r
-copy-none E B j r a b = record { job = omega arith; most = omega arith; entry = λ n. absurd (n b) }
+copy-none E B j r a b = record { job = omega arith; most = omega arith; entry = λ n. absurd (n b); none = λ e. a }
 
 copy-one : (E B j r : ℕ) → E ≤ 64 → copyOk E B j r ≡ true → CopyFacts E B j r
 copy-one E B j r h c =
     let l = copy-job E B j r c in
-    record { job = omega arith; most = copy-most E B j r c; entry = λ n. l }
+    record { job = omega arith; most = copy-most E B j r c; entry = λ n. l; none = λ e. absurd (omega (arith, copy-some E B j r c)) }
 
 -- ---- a job
 
@@ -107,18 +106,9 @@ module _ (t : Table) (o : Ok t) where
 
   no-job : (j : ℕ) → JobFacts t j noJob
   no-job j = record {
-    state = omega arith;
-    replica = omega arith;
-    moving = omega arith;
-    holder = omega arith;
-    thief = omega arith;
-    holder-in = omega (arith, many);
-    thief-in = omega (arith, many);
-    still = λ e. refl;
-    some = λ n. absurd (n refl);
-    entry = λ n. absurd (n refl);
-    none = λ e. refl;
-    unpriced = λ n. refl;
+    state = omega arith; replica = omega arith; moving = omega arith; holder = omega arith; thief = omega arith;
+    holder-in = omega (arith, many); thief-in = omega (arith, many);
+    still = λ e. refl; some = λ n. absurd (n refl); entry = λ n. absurd (n refl); none = λ e. refl; unpriced = λ n. refl;
   }
 
   job-facts : (j : ℕ) (v : Job) → jobOk M E B j v ≡ true → JobFacts t j v
@@ -146,7 +136,7 @@ module _ (t : Table) (o : Ok t) where
 
 -- ---- a machine
 
--- the copies of a living machine
+-- its copies
 module _ (M E B : ℕ) (n : Machine) (z : 0 < M) (l : E ≤ 64) where
   running-facts : runningOk E B n ≡ true → CopyFacts E B (n .«running_job») (n .«running_replica»)
   running-facts g =
@@ -156,7 +146,12 @@ module _ (M E B : ℕ) (n : Machine) (z : 0 < M) (l : E ≤ 64) where
       (λ e. copy-none E B j r (eqb-true _ _ (and-left (eqb j 0) (eqb r 0) e)) (eqb-true _ _ (and-right (eqb j 0) (eqb r 0) e)))
       (copy-one E B j r l)
 
-  reserved-facts : reservedOk M E B n ≡ true → CopyFacts E B (n .«reserved_job») (n .«reserved_replica») × (n .«reserved_thief» < M)
+  record Reserved : Type 0 where
+    copy : CopyFacts E B (n .«reserved_job») (n .«reserved_replica»)
+    thief : n .«reserved_thief» < M
+    none : n .«reserved_replica» ≡ 0 → n .«reserved_thief» ≡ 0
+
+  reserved-facts : reservedOk M E B n ≡ true → Reserved
   reserved-facts g =
       let j = n .«reserved_job» in
       let r = n .«reserved_replica» in
@@ -167,98 +162,58 @@ module _ (M E B : ℕ) (n : Machine) (z : 0 < M) (l : E ≤ 64) where
       let f = ltb (n .«reserved_thief») M in
       byOr (a && b && c) (d && f) g
       (λ e.
-      let p = and-left (a && b) c e in
-      let k : n .«reserved_thief» ≡ 0 = eqb-true _ _ (and-right (a && b) c e) in
-      (copy-none E B j r (eqb-true _ _ (and-left a b p)) (eqb-true _ _ (and-right a b p)), omega arith))
-      (λ e. (copy-one E B j r l (and-left d f e), ltb-true _ _ (and-right d f e)))
+      let p = chain-apart a (b ∷ c ∷ []) e in
+      let k : n .«reserved_thief» ≡ 0 = eqb-true _ _ (p .1 .1 .0) in
+      record { copy = copy-none E B j r (eqb-true _ _ (p .0)) (eqb-true _ _ (p .1 .0)); thief = omega arith; none = λ y. k })
+      (λ e. record {
+        copy = copy-one E B j r l (and-left d f e);
+        thief = ltb-true _ _ (and-right d f e);
+        none = λ y. absurd (omega (arith, copy-some E B j r (and-left d f e)));
+      })
 
 module _ (t : Table) (o : Ok t) where
-  no-machine : (m : ℕ) → MachineFacts t m noMachine
-  no-machine m = record {
-    alive = omega arith;
-    alive-in = λ e. absurd (omega arith);
-    waits = omega arith;
-    reserved-job = omega arith;
-    reserved-replica = omega arith;
-    reserved-thief = omega arith;
-    reserved-thief-in = omega (arith, many t o);
-    reserved-entry = λ n. absurd (n refl);
-    running-job = omega arith;
-    running-replica = omega arith;
-    running-entry = λ n. absurd (n refl);
-    dead-reserved = λ e. refl;
-    dead-running = λ e. refl;
-    dead = λ e. refl;
-  }
-
   machine-facts : (m : ℕ) (n : Machine) → nodeOk (t .machines) (t .entries) (bound t) m n ≡ true → MachineFacts t m n
   machine-facts m n g =
       let M = t .machines in
       let E = t .entries in
       let B = bound t in
-      byEq (n .alive) 1
-      (λ al.
       let z : 0 < M = omega (arith, many t o) in
-      let r = reserved-facts M E B n z (short t o) (reserved M E B m n g al) in
-      let c = r .0 in
-      let u = running-facts M E B n z (short t o) (runs M E B m n g al) in
+      let none : n .alive ≢ 1 → n ≡ noMachine = λ d. empty-machine n (node-dead M E B m n g d) in
+      -- what a living machine and none have
+      let each : (P : Machine → Type 0) → P noMachine → (n .alive ≡ 1 → P n) → P n = λ P p f. byEq (n .alive) 1 f (λ d. subst P (sym (none d)) p) in
+      let r = reserved-facts M E B n z (short t o) (each (λ k. reservedOk M E B k ≡ true) refl (reserved M E B m n g)) in
+      let u = running-facts M E B n z (short t o) (each (λ k. runningOk E B k ≡ true) refl (runs M E B m n g)) in
       record {
-        alive = omega arith;
-        alive-in = λ e. node-in M E B m n g al;
-        waits = node-waits M E B m n g al;
-        reserved-job = c .job;
-        reserved-replica = c .most;
-        reserved-thief = omega (arith, few t o, r .1);
-        reserved-thief-in = r .1;
-        reserved-entry = c .entry;
+        alive = each (λ k. k .alive ≤ 1) (omega arith) (λ e. omega arith);
+        alive-in = node-in M E B m n g;
+        waits = each (λ k. k .waits ≤ M) (omega arith) (node-waits M E B m n g);
+        reserved-job = r .copy .job;
+        reserved-replica = r .copy .most;
+        reserved-thief = omega (arith, few t o, r .thief);
+        reserved-thief-in = r .thief;
+        reserved-entry = r .copy .entry;
         running-job = u .job;
         running-replica = u .most;
         running-entry = u .entry;
-        dead-reserved = λ e. absurd (omega arith);
-        dead-running = λ e. absurd (omega arith);
-        dead = λ e. absurd (omega arith);
-      })
-      (λ d. subst (MachineFacts t m) (sym (empty-machine n (node-dead M E B m n g d))) (no-machine m))
+        unreserved = λ e. (r .copy .none e, r .none e);
+        idle = u .none;
+        dead = λ e. none (λ a. omega arith);
+      }
 
 -- ---- a message in flight
 
--- a test that asks c where w holds, and d where it does not
-either-no : (w c d : Bool) → w && c || not w && d ≡ true → w ≡ false → d ≡ true
-either-no w c d e f = and-right (not w) d (or-elim (w && c) (not w && d) e (ap (λ (b : Bool). b && c) f))
-
 module _ (t : Table) (o : Ok t) (x : Message) where
-  message-copy : messageOk (t .machines) (t .entries) (bound t) x ≡ true → CopyFacts (t .entries) (bound t) (x .job) (x .replica)
-  message-copy g =
-      let M = t .machines in
-      let E = t .entries in
-      let B = bound t in
-      let w = withCopy (x .kind) in
-      let a = eqb (x .job) 0 in
-      let b = eqb (x .replica) 0 in
-      let k = kindOk x && endsOk M x in
-      byBool w
-      (λ e. copy-one E B (x .job) (x .replica) (short t o) (copy-in M E B x g e))
-      (λ e.
-      let p : a && b ≡ true = either-no w (copyOk E B (x .job) (x .replica)) (a && b) (and-right k (carriesOk E B x) (and-left (k && carriesOk E B x) (thiefOk M x) g)) e in
-      copy-none E B (x .job) (x .replica) (eqb-true _ _ (and-left a b p)) (eqb-true _ _ (and-right a b p)))
-
-  message-thief : messageOk (t .machines) (t .entries) (bound t) x ≡ true → x .thief < t .machines
-  message-thief g =
-      let M = t .machines in
-      let w = withThief (x .kind) in
-      byBool w (thief-in M (t .entries) (bound t) x g)
-      (λ e.
-      let z : x .thief ≡ 0 = eqb-true _ _ (either-no w (ltb (x .thief) M) (eqb (x .thief) 0) (and-right (kindOk x && endsOk M x && carriesOk (t .entries) (bound t) x) (thiefOk M x) g) e) in
-      omega (arith, many t o))
-
-  message-facts : inFlightOk t x ≡ true → MessageFacts t x
+  pub message-facts : inFlightOk t x ≡ true → MessageFacts t x
   message-facts h =
       let M = t .machines in
       let E = t .entries in
       let B = bound t in
       let g = and-right (lives t (x .to)) (messageOk M E B x) h in
-      let c = message-copy g in
-      let th = message-thief g in
+      let c : CopyFacts E B (x .job) (x .replica) =
+      byBool (withCopy (x .kind))
+      (λ w. copy-one E B (x .job) (x .replica) (short t o) (copy-in M E B x g w))
+      (λ w. let y = no-copy M E B x g w in copy-none E B (x .job) (x .replica) (y .0) (y .1)) in
+      let th : x .thief < M = byBool (withThief (x .kind)) (thief-in M E B x g) (λ w. omega (arith, no-thief M E B x g w, many t o)) in
       record {
         kind-least = kind-some M E B x g;
         kind-most = kind-most M E B x g;
@@ -281,14 +236,8 @@ module _ (t : Table) (o : Ok t) (x : Message) where
 module _ (t : Table) (s : Sized t) (o : Ok t) where
   told-one : (m d : ℕ) → m < 16 → d < 16 → toldAt t m d ≤ 1
   told-one m d h k =
-      let x = toldAt t m d in
-      let a = eqb x 1 in
-      let b = ltb m (t .machines) in
-      let c = ltb d (t .machines) in
-      let f = eqb (nodeAt t d .alive) 0 in
-      byOr (eqb x 0) (a && b && c && f) (o .told m d h k)
-      (λ e. let z : x ≡ 0 = eqb-true _ _ e in omega arith)
-      (λ e. let z : x ≡ 1 = eqb-true _ _ (and-left a b (and-left (a && b) c (and-left (a && b && c) f e))) in omega arith)
+      byEq (toldAt t m d) 0 (λ e. omega arith)
+      (λ n. omega (arith, told-is (t .machines) (nodeAt t d .alive) m d (toldAt t m d) (o .told m d h k) n))
 
   told-of : (m d : ℕ) → m < 16 → d < 16 → toldAt t m d ≢ 0 → nodeAt t d .alive ≡ 0
   told-of m d h k = told-dead (t .machines) (nodeAt t d .alive) m d (toldAt t m d) (o .told m d h k)

@@ -17,7 +17,7 @@ use Rattle.pricer.specs.declared.Terms.{Terms}
 use Rattle.pricer.specs.declared.Terms.the-variants.{Zero, Fixed}
 use Rattle.table.specs.Views.{noJob, noMachine, noMessage, pastBond, bondAt}
 use Rattle.elements.specs.Elements.{noTerms, bondOk}
-use Rattle.validity.specs.Validity.{bondsOk, tableOk}
+use Rattle.validity.specs.Validity.{tableOk}
 use Rattle.preservation.proofs.Ok.{tests}
 use Rattle.kept_read.specs.Layout.{bondFrom, jobFrom, machineFrom, messageFrom, bondsFrom, jobsFrom, machinesFrom, toldFrom, poolsFrom, messagesFrom, tableFrom, termsFormed, formed}
 use Rattle.kept_write.specs.Bytes.{bondBytes, jobBytes, machineBytes, messageBytes, bondsBytes, jobsBytes, machinesBytes, messagesBytes, entriesBytes, fleetBytes, flightBytes, bytesOf}
@@ -99,9 +99,8 @@ module _ (s : List ℕ) (small : AreBytes s) (l : length s ≡ 5171) where
     bond-is i k = tabulate-at (λ j. bondFrom s (2 + 18 * j)) 64 pastBond 64 i pastBond k
 
     bonds-real : (i : ℕ) → i < 64 → RatesReal (bondFrom s (2 + 18 * i) .terms)
-    unfolding bondsOk
     bonds-real i k =
-        let e = all-at (λ j. bondOk (tableFrom s .entries) j (bondAt (tableFrom s) j)) 64 i (tests (tableFrom s) ok .bonds) k in
+        let e = tests (tableFrom s) ok .bond i k in
         bond-real (tableFrom s .entries) i (bondFrom s (2 + 18 * i)) (rw (bond-is i k) at e)
 
     bonds-part : bondsBytes (bondsFrom s) ≡ part s 2 1152

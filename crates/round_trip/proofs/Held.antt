@@ -31,7 +31,7 @@ use Rattle.opening.proofs.Shown.{sized-fresh, bond-fresh}
 use Rattle.dispatcher.specs.Step.{stepOf}
 use Rattle.dispatcher.proofs.Kept.{step-sized}
 use Rattle.run.proofs.Events.{passed-sized}
-use Rattle.invariant.proofs.Fixed.{step-bonds}
+use Rattle.dispatcher.proofs.Fixed.{step-bonds}
 use Rattle.kept_read.specs.Layout.{bondFrom, jobFrom, machineFrom, messageFrom, bondsFrom, jobsFrom, machinesFrom, toldFrom, poolsFrom, messagesFrom, tableFrom}
 use Rattle.round_trip.proofs.Elements.{RatesFit}
 use Rattle.round_trip.proofs.Table.{Held}

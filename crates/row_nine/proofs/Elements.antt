@@ -4,25 +4,19 @@ use Prim.Native.Nat.{ℕ, _≤_, _<_}
 use mathlib.Core.Path.{_≡_, refl}
 use mathlib.Core.Logic.{_≢_}
 use mathlib.Core.Bool.{Bool, true, false, not, _&&_, _||_}
+use mathlib.Core.List.{[], _∷_}
 use native.Mathlib.Omega.{arith}
 use borrow.Author.Tests.{ltb-false, ltb-true, le-leb, lt-ltb, eq-eqb}
 use lib.Dec.{eqb, leb, ltb}
-use Rattle.lists.proofs.Cases.{byBool, byEq, or-right, and-both, and-three}
+use Rattle.lists.proofs.Cases.{byBool, byEq, or-left, or-right, and-both, and-three, either-is}
+use Rattle.lists.proofs.Chains.{chain-joined}
 use Rattle.table.specs.declared.Job.{Job}
 use Rattle.table.specs.declared.Machine.{Machine}
 use Rattle.table.specs.declared.Message.{Message}
 use Rattle.table.specs.Views.{noJob, noMachine}
-use Rattle.elements.specs.Elements.{copyOk, emptyJob, admittedOk, placeOk, jobOk, emptyNode, reservedOk, runningOk, nodeOk, toldOk, cellOk}
+use Rattle.elements.specs.Elements.{copyOk, admittedOk, placeOk, jobOk, reservedOk, runningOk, nodeOk, toldOk, cellOk}
 use Rattle.slots.specs.Slots.{kindOk, endsOk, carriesOk, thiefOk, withCopy, withThief, toRoot, messageOk}
-use Rattle.preservation.proofs.Facts.{copy-is}
-
-or-left : (a b : Bool) → a ≡ true → a || b ≡ true
-or-left a b e = rw e
-
--- a test that asks c where w holds, and d where it does not
-either : (w c d : Bool) → (w ≡ true → c ≡ true) → (w ≡ false → d ≡ true) → w && c || not w && d ≡ true
-either true c d f g = rw (f refl)
-either false c d f g = rw (g refl)
+use Rattle.preservation.proofs.Facts.{copy-is, job-is, node-is}
 
 unless : (w c : Bool) → (w ≡ true → c ≡ true) → not w || c ≡ true
 unless true c f = f refl
@@ -53,9 +47,7 @@ module _ (M E B j : ℕ) (v : Job) where
   job-passes st mo ho th re en un pr sl bo =
       byEq (v .state) 0
       (λ e. let q = un e in simp q)
-      (λ e. or-right (emptyJob v) _
-      (and-three (admittedOk v) (copyOk E B j (v .replica)) (placeOk M v) (admitted e st pr)
-      (copy-is E B j (v .replica) (before j E (λ l. e (en l))) (re e) bo) (place (ho e) mo th sl)))
+      (λ e. job-is M E B j v (admitted e st pr) (copy-is E B j (v .replica) (before j E (λ l. e (en l))) (re e) bo) (place (ho e) mo th sl))
 
 -- ---- a machine
 
@@ -85,9 +77,7 @@ module _ (M E B m : ℕ) (n : Machine) where
   node-passes al wa ma de r u =
       byEq (n .alive) 0
       (λ e. let q = de e in simp q)
-      (λ e. or-right (emptyNode n) _
-      (and-three (ltb m M && eqb (n .alive) 1 && leb (n .waits) M) (reservedOk M E B n) (runningOk E B n)
-      (and-three (ltb m M) (eqb (n .alive) 1) (leb (n .waits) M) (lt-ltb m M (before m M (λ l. e (ma l)))) (eq-eqb (n .alive) 1 (omega arith)) (le-leb _ _ wa)) r u))
+      (λ e. node-is M E B m n (before m M (λ l. e (ma l))) (omega arith) wa r u)
 
 -- ---- a told flag and a pool's cell
 
@@ -96,7 +86,7 @@ told-passes M al m d x l f g =
     byEq x 0
     (λ e. or-left (eqb x 0) _ (eq-eqb _ _ e))
     (λ e. or-right (eqb x 0) _
-    (and-both (eqb x 1 && ltb m M && ltb d M) (eqb al 0) (and-three (eqb x 1) (ltb m M) (ltb d M) (eq-eqb x 1 (omega arith)) (lt-ltb _ _ (f e .0)) (lt-ltb _ _ (f e .1))) (eq-eqb _ _ (g e))))
+    (chain-joined (eqb x 1) (ltb m M ∷ ltb d M ∷ eqb al 0 ∷ []) (eq-eqb x 1 (omega arith)) (lt-ltb _ _ (f e .0), (lt-ltb _ _ (f e .1), (eq-eqb _ _ (g e), tt)))))
 
 pub cell-passes : (E B al j x : ℕ) → (x ≢ 0 → al ≡ 1) → (x ≢ 0 → j < E) → x ≤ B → cellOk E B al j x ≡ true
 cell-passes E B al j x f g l =
@@ -119,12 +109,12 @@ module _ (M E B : ℕ) (x : Message) where
 
   pub carries-passes : (withCopy (x .kind) ≡ true → (x .job < E) × (1 ≤ x .replica)) → (withCopy (x .kind) ≡ false → (x .job ≡ 0) × (x .replica ≡ 0)) → x .replica ≤ B → carriesOk E B x ≡ true
   carries-passes f g l =
-      either (withCopy (x .kind)) (copyOk E B (x .job) (x .replica)) (eqb (x .job) 0 && eqb (x .replica) 0)
+      either-is (withCopy (x .kind)) (copyOk E B (x .job) (x .replica)) (eqb (x .job) 0 && eqb (x .replica) 0)
       (λ e. copy-is E B (x .job) (x .replica) (f e .0) (f e .1) l)
       (λ e. and-both (eqb (x .job) 0) (eqb (x .replica) 0) (eq-eqb _ _ (g e .0)) (eq-eqb _ _ (g e .1)))
 
   pub thief-passes : (withThief (x .kind) ≡ true → x .thief < M) → (withThief (x .kind) ≡ false → x .thief ≡ 0) → thiefOk M x ≡ true
-  thief-passes f g = either (withThief (x .kind)) (ltb (x .thief) M) (eqb (x .thief) 0) (λ e. lt-ltb _ _ (f e)) (λ e. eq-eqb _ _ (g e))
+  thief-passes f g = either-is (withThief (x .kind)) (ltb (x .thief) M) (eqb (x .thief) 0) (λ e. lt-ltb _ _ (f e)) (λ e. eq-eqb _ _ (g e))
 
   pub message-passes : kindOk x ≡ true → endsOk M x ≡ true → carriesOk E B x ≡ true → thiefOk M x ≡ true → messageOk M E B x ≡ true
-  message-passes a b c d = and-both (kindOk x && endsOk M x && carriesOk E B x) (thiefOk M x) (and-three (kindOk x) (endsOk M x) (carriesOk E B x) a b c) d
+  message-passes a b c d = chain-joined (kindOk x) (endsOk M x ∷ carriesOk E B x ∷ thiefOk M x ∷ []) a (b, (c, (d, tt)))

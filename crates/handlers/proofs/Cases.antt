@@ -1,4 +1,4 @@
--- A handler by the kind of the message: what holds of each of the nine holds of `handle`.
+-- A message by its kind: what holds of each of the nine handlers, and of the table as it is where the kind is none of the nine, holds of `handle`.
 -- Assumes nothing.
 use mathlib.Core.Path.{_≡_}
 use mathlib.Core.Bool.{false}
@@ -9,13 +9,14 @@ use borrow.Author.Tests.{eqb-true, eqb-false}
 use Rattle.table.specs.declared.Message.{Message}
 use Rattle.table.specs.declared.Table.{Table}
 use Rattle.table.specs.Parts.{FISH, REQ, AUTH, DENIED, OBSOLETE, SCHEDULE, ACK, NOWORK, RESULT}
 use Rattle.handlers.specs.Handlers.{handle}
 use Rattle.victim_handlers.specs.VictimHandlers.{onFish, onAuth, onDenied, onObsolete}
 use Rattle.thief_handlers.specs.ThiefHandlers.{onSchedule, onNoWork}
 use Rattle.root_handlers.specs.RootHandlers.{onReq, onAck, onResult}
 use Rattle.lists.proofs.Cases.{byBool}
 
-module _ (P : Table → Type 0) (s : Table) (x : Message) (least : 1 ≤ x .kind) (most : x .kind ≤ 9)
+module _ (P : Table → Type 0) (s : Table) (x : Message)
+    (other : (FISH ≤ x .kind → x .kind ≤ RESULT → ⊥) → P s)
     (fish : x .kind ≡ FISH → P (onFish s x))
     (req : x .kind ≡ REQ → P (onReq s x))
     (auth : x .kind ≡ AUTH → P (onAuth s x))
@@ -25,6 +26,9 @@ module _ (P : Table → Type 0) (s : Table) (x : Message) (least : 1 ≤ x .kind
     (ack : x .kind ≡ ACK → P (onAck s x))
     (nowork : x .kind ≡ NOWORK → P (onNoWork s x))
     (result : x .kind ≡ RESULT → P (onResult s x)) where
+  up : (n : ℕ) → eqb (x .kind) n ≡ false → n ≤ x .kind → suc n ≤ x .kind
+  up n e l = let d = eqb-false (x .kind) n e in omega arith
+
   pub by-kind : P (handle s x)
   unfolding handle
   by-kind =
@@ -37,11 +41,5 @@ module _ (P : Table → Type 0) (s : Table) (x : Message) (least : 1 ≤ x .kind
       (λ a6. byBool (eqb (x .kind) ACK) (λ a. rw (a1, a2, a3, a4, a5, a6, a, handle) (ack (eqb-true _ _ a)))
       (λ a7. byBool (eqb (x .kind) NOWORK) (λ a. rw (a1, a2, a3, a4, a5, a6, a7, a, handle) (nowork (eqb-true _ _ a)))
       (λ a8. byBool (eqb (x .kind) RESULT) (λ a. rw (a1, a2, a3, a4, a5, a6, a7, a8, a, handle) (result (eqb-true _ _ a)))
-      (λ a9. absurd (other a1 a2 a3 a4 a5 a6 a7 a8 a9))))))))))
-    where
-      up : (n : ℕ) → n ≤ x .kind → eqb (x .kind) n ≡ false → suc n ≤ x .kind
-      up n l e = let d = eqb-false (x .kind) n e in omega arith
-
-      -- there is no other kind
-      other : eqb (x .kind) FISH ≡ false → eqb (x .kind) REQ ≡ false → eqb (x .kind) AUTH ≡ false → eqb (x .kind) DENIED ≡ false → eqb (x .kind) OBSOLETE ≡ false → eqb (x .kind) SCHEDULE ≡ false → eqb (x .kind) ACK ≡ false → eqb (x .kind) NOWORK ≡ false → eqb (x .kind) RESULT ≡ false → ⊥
-      other a1 a2 a3 a4 a5 a6 a7 a8 a9 = omega (arith, up 9 (up 8 (up 7 (up 6 (up 5 (up 4 (up 3 (up 2 (up 1 least a1) a2) a3) a4) a5) a6) a7) a8) a9)
+      (λ a9. rw (a1, a2, a3, a4, a5, a6, a7, a8, a9, handle) (other (λ least most.
+      omega (arith, up 9 a9 (up 8 a8 (up 7 a7 (up 6 a6 (up 5 a5 (up 4 a4 (up 3 a3 (up 2 a2 (up 1 a1 least))))))))))))))))))))
