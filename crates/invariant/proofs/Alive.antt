@@ -31,7 +31,7 @@ module _ (t : Table) (z : Sized t) where
   alive-sent : (a : ℕ) (v : Machine) (x : Message) (m : ℕ) → a < 16 → v .alive ≡ nodeAt t a .alive → nodeAt (send (withNode t a v) x) m .alive ≡ nodeAt t m .alive
   alive-sent a v x m l e =
       let u = withNode t a v in
-      ap (λ (n : Machine). n .alive) (view-send (λ s. nodeAt s m) u x (λ n k. node-messages u n k m)) ∙ alive-node t a v z l e m
+      ap (λ (n : Machine). n .alive) (view-send (λ s. nodeAt s m) u x (λ n k. node-messages u n k m)) ∙ alive-node t a v e m
 
   pub alive-stolen : (a b m : ℕ) → a < 16 → nodeAt (stolen t a b) m .alive ≡ nodeAt t m .alive
   unfolding stolen

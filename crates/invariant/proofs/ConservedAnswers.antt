@@ -63,7 +63,7 @@ module _ (s : Table) (x : Message) (h : Hand s x) (nr : eqb (x .kind) REQ ≡ fa
     sent k o j r p =
         let y = message k (x .to) o j r 0 in
         let q : plain (y .kind) ≡ true = rw (kind-message k (x .to) o j r 0) p in
-        conserved-sends u y (f .sized) (omega (arith, f .used, h .room)) (f .alive 0 ∙ h .facts .root) (λ e. absurd (plain-not y q e))
+        conserved-sends u y (f .sized) (λ e. omega (arith, f .used, h .room)) (f .alive 0 ∙ h .facts .root) (λ e. absurd (plain-not y q e))
         (rw (f .flight) (matched y q))
 
   module _ (match : reserves (nodeAt s (x .to)) (x .job) (x .replica) (x .thief) ≡ true) where

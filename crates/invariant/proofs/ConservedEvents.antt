@@ -6,6 +6,7 @@ use Rattle.pricer.specs.Price.{priceBits}
 use Rattle.table.specs.declared.Machine.{Machine}
 use Rattle.table.specs.declared.Table.{Table}
 use Rattle.table.specs.Views.{bondAt, nodeAt, poolAt, flight, withJob, withNode, withPool, enter}
+use Rattle.table.specs.Messages.{RoomFor}
 use Rattle.table.specs.Parts.{opened, reserves, running, waiting, message, result, FISH}
 use Rattle.table.proofs.Views.{views, node-pool}
 use Rattle.events.specs.Events.{admitted}
@@ -30,8 +31,8 @@ module _ (t : Table) (w : Whole t) where
   same-node : (a : ℕ) (v : Machine) → a < 16 → ((j q th : ℕ) → reserves v j q th ≡ reserves (nodeAt t a) j q th) → SameReserved t (withNode t a v)
   same-node a v l e m j q th = part-kept (λ n. reserves n j q th) t t a v (w .sized) l (λ k. refl) (e j q th) m
 
-  pub conserved-stolen : (a b : ℕ) → a < 16 → t .«in_flight» < 128 → Conserved (stolen t a b) (flight (stolen t a b))
-  unfolding stolen
+  pub conserved-stolen : (a b : ℕ) → a < 16 → RoomFor t b → Conserved (stolen t a b) (flight (stolen t a b))
+  unfolding stolen message
   conserved-stolen a b l room =
       let n = nodeAt t a in
       let v = waiting n (b + 1) in
@@ -54,4 +55,4 @@ module _ (t : Table) (w : Whole t) where
       let n = nodeAt t a in
       let v = running n 0 0 in
       conserved-plain t (withNode t a v) (result a (n .«running_job») (n .«running_replica») (priceBits (bondAt t (n .«running_job»)))) (frame-node t t here a v l (alive-running n 0 0))
-      (same-node a v l (λ j q th. reserves-running n 0 0 j q th)) room (w .facts .root) (unfold plain isAnswer result in refl) (w .conserved)
+      (same-node a v l (λ j q th. reserves-running n 0 0 j q th)) (λ e. room) (w .facts .root) (unfold plain isAnswer result in refl) (w .conserved)

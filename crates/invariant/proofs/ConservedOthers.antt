@@ -37,7 +37,7 @@ module _ (s : Table) (x : Message) (h : Hand s x) (c : Conserved s (x ∷ flight
   unfolding reply
   answers k u f re e a b =
       let y = message k 0 (x .from) (x .job) (x .replica) (x .thief) in
-      conserved-sends u y (f .sized) (omega (arith, f .used, h .room)) (f .alive 0 ∙ h .facts .root)
+      conserved-sends u y (f .sized) (λ e. omega (arith, f .used, h .room)) (f .alive 0 ∙ h .facts .root)
       (λ d. absurd (eqb-false k REQ b (sym (kind-message k 0 (x .from) (x .job) (x .replica) (x .thief)) ∙ d)))
       (rw (f .flight) (conserved-frame s u (x ∷ flight s) (y ∷ flight s) f re (λ m th j q. omega (arith, ap ind (about-reply x k m th j q e a b))) c))
 
@@ -90,4 +90,4 @@ module _ (s : Table) (x : Message) (h : Hand s x) (c : Conserved s (x ∷ flight
       let f : Frame s p = frame-enter s s here b (x .job) (x .replica) in
       conserved-plain s (withNode p b v) y (frame-node s p f b v (h .message .to) (alive-waiting (nodeAt s b) 0))
       (λ m j q th. part-kept (λ n. reserves n j q th) s p b v (f .sized) (h .message .to) (λ k. rw (node-enter s b (x .job) (x .replica) k)) (reserves-waiting (nodeAt s b) 0 j q th) m)
-      (h .room) (h .facts .root) (unfold plain isAnswer message in refl) (forgets (unfold plain isAnswer in rw e))
+      (λ e. h .room) (h .facts .root) (unfold plain isAnswer message in refl) (forgets (unfold plain isAnswer in rw e))

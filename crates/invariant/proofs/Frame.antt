@@ -1,6 +1,6 @@
 -- Updates that change jobs, pools and single parts of machines: the messages in flight, who lives and who was told of whom stay as they were.
 -- Assumes nothing.
-use mathlib.Core.Path.{_≡_, refl}
+use mathlib.Core.Path.{_≡_, refl, sym, _∙_}
 use mathlib.Core.Logic.{_≢_}
 use Prim.Native.Nat.{ℕ, _<_, max}
 use Rattle.lists.proofs.Cases.{byEq}
@@ -8,6 +8,7 @@ use Rattle.table.specs.declared.Job.{Job}
 use Rattle.table.specs.declared.Machine.{Machine}
 use Rattle.table.specs.declared.Table.{Table}
 use Rattle.table.specs.Views.{jobAt, nodeAt, poolAt, toldAt, flight, withJob, withNode, withPool, enter}
+use Rattle.table.specs.Messages.{RoomFor}
 use Rattle.table.specs.Parts.{release, returned}
 use Rattle.table.proofs.Views.{Sized, views, sized-job, sized-node, sized-pool, node-same, node-other, node-pool}
 use Rattle.preservation.proofs.Sizes.{sized-enter}
@@ -45,6 +46,9 @@ module _ (s u : Table) (f : Frame s u) where
     told = simp views (f .told);
     alive = part-kept (λ n. n .alive) s u b v (f .sized) bl (f .alive) e;
   }
+
+  pub frame-room : (b : ℕ) → RoomFor s b → RoomFor u b
+  frame-room b r e = rw (f .used) (r (sym (f .alive b) ∙ e))
 
   pub frame-enter : (m j r : ℕ) → Frame s (enter u m j r)
   unfolding enter

@@ -7,6 +7,7 @@ use Prim.Native.Nat.{ℕ, _<_}
 use native.Mathlib.Omega.{arith}
 use Rattle.table.specs.declared.Table.{Table}
 use Rattle.table.specs.Views.{jobAt, nodeAt, poolAt, toldAt, flight}
+use Rattle.table.specs.Messages.{RoomFor}
 use Rattle.events.specs.Events.{admitted, delivered, died}
 use Rattle.steal.specs.Steal.{stolen}
 use Rattle.work.specs.Work.{started, finished}
@@ -49,7 +50,7 @@ module _ (t : Table) (w : Whole t) where
       let h = entry a l in
       whole (admitted t a) (valid-admitted t v a l) (conserved-admitted t w a) (trip-admitted t a w h e) (side-admitted t w a h e) (prices-admitted t w a h)
 
-  pub whole-stolen : (a b : ℕ) → a < t .machines → b < t .machines → nodeAt t a .alive ≡ 1 → t .«in_flight» < 128 → Whole (stolen t a b)
+  pub whole-stolen : (a b : ℕ) → a < t .machines → b < t .machines → nodeAt t a .alive ≡ 1 → RoomFor t b → Whole (stolen t a b)
   whole-stolen a b la lb alive room =
       let h = machine a la in
       whole (stolen t a b) (valid-stolen t v a b la lb alive room)

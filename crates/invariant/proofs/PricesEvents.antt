@@ -14,7 +14,7 @@ use Rattle.table.specs.declared.Machine.{Machine}
 use Rattle.table.specs.declared.Message.{Message}
 use Rattle.table.specs.declared.Table.{Table}
 use Rattle.table.specs.Views.{bondAt, jobAt, nodeAt, poolAt, flight, withJob, withNode, withPool}
-use Rattle.table.specs.Messages.{notTo, notFrom, send}
+use Rattle.table.specs.Messages.{notTo, notFrom, send, RoomFor}
 use Rattle.table.specs.Parts.{opened, running, message, result}
 use Rattle.table.proofs.Views.{views}
 use Rattle.events.specs.Events.{admitted, died}
@@ -23,7 +23,7 @@ use Rattle.work.specs.Work.{started, finished}
 use Rattle.notice.specs.Notice.{lost, quieted, noticed}
 use Rattle.preservation.proofs.Sizes.{sized-quieted}
 use Rattle.invariant.proofs.State.{Prices, RightPrice, Whole}
-use Rattle.invariant.proofs.Frame.{Frame, frame-refl, frame-node, frame-pool, flight-enter, job-enter}
+use Rattle.invariant.proofs.Frame.{Frame, frame-refl, frame-node, frame-pool, frame-room, flight-enter, job-enter}
 use Rattle.invariant.proofs.About.{alive-running, alive-waiting}
 use Rattle.invariant.proofs.Died.{job-died, flight-died}
 use Rattle.notice.proofs.Parts.{job-quieted}
@@ -62,12 +62,12 @@ module _ (t : Table) (w : Whole t) where
       record { sent = rw (flight-enter u 0 a 1) (q .sent); shown = λ j h. rw (job-enter u 0 a 1 j) (q .shown j h) }
 
   -- machine a's record is new, and y is sent
-  sent-node : (a : ℕ) (v : Machine) (y : Message) → a < 16 → t .«in_flight» < 128 → v .alive ≡ nodeAt t a .alive → RightPrice t y → PricesBy t (send (withNode t a v) y) (flight (send (withNode t a v) y))
+  sent-node : (a : ℕ) (v : Machine) (y : Message) → a < 16 → RoomFor t (y .to) → v .alive ≡ nodeAt t a .alive → RightPrice t y → PricesBy t (send (withNode t a v) y) (flight (send (withNode t a v) y))
   sent-node a v y l room alive e =
       let f : Frame t (withNode t a v) = frame-node t t here a v l alive in
-      by-send t (withNode t a v) y (f .sized) (omega (arith, f .used)) e (by-frame t _ f (λ j. simp views) p)
+      by-send t (withNode t a v) y (f .sized) (frame-room t _ f (y .to) room) e (by-frame t _ f (λ j. simp views) p)
 
-  right-stolen : (a b : ℕ) → a < 16 → t .«in_flight» < 128 → PricesBy t (stolen t a b) (flight (stolen t a b))
+  right-stolen : (a b : ℕ) → a < 16 → RoomFor t b → PricesBy t (stolen t a b) (flight (stolen t a b))
   unfolding stolen message
   right-stolen a b l room = sent-node a _ _ l room (alive-waiting (nodeAt t a) (b + 1)) (λ (e : _≡_ {A = ℕ} 1 9). absurd (omega arith))
 
@@ -82,12 +82,12 @@ module _ (t : Table) (w : Whole t) where
   unfolding finished
   right-finished a l room =
       let n = nodeAt t a in
-      sent-node a (running n 0 0) _ l room (alive-running n 0 0) (right-result t a (n .«running_job») (n .«running_replica»))
+      sent-node a (running n 0 0) _ l (λ e. room) (alive-running n 0 0) (right-result t a (n .«running_job») (n .«running_replica»))
 
   pub prices-admitted : (a : ℕ) → a < 64 → Prices (admitted t a) (flight (admitted t a))
   prices-admitted a l = prices-by t (admitted t a) _ (λ j. fixed-admitted (λ u. bondAt u j) (fixed-bond j) t a) (right-admitted a l)
 
-  pub prices-stolen : (a b : ℕ) → a < 16 → t .«in_flight» < 128 → Prices (stolen t a b) (flight (stolen t a b))
+  pub prices-stolen : (a b : ℕ) → a < 16 → RoomFor t b → Prices (stolen t a b) (flight (stolen t a b))
   prices-stolen a b l room = prices-by t (stolen t a b) _ (λ j. fixed-stolen (λ u. bondAt u j) (fixed-bond j) t a b) (right-stolen a b l room)
 
   pub prices-started : (a b : ℕ) → a < 16 → Prices (started t a b) (flight (started t a b))

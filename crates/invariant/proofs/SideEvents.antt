@@ -13,14 +13,14 @@ use Rattle.table.specs.declared.Machine.{Machine}
 use Rattle.table.specs.declared.Message.{Message}
 use Rattle.table.specs.declared.Table.{Table}
 use Rattle.table.specs.Views.{noMachine, bondAt, jobAt, nodeAt, poolAt, flight, withJob, withNode, withPool, enter}
-use Rattle.table.specs.Messages.{notTo, send}
+use Rattle.table.specs.Messages.{notTo, send, RoomFor}
 use Rattle.table.specs.Parts.{opened, running, waiting, message, result, FISH}
 use Rattle.table.proofs.Views.{views, node-same, node-other, node-pool, flight-job}
 use Rattle.events.specs.Events.{admitted, died}
 use Rattle.steal.specs.Steal.{stolen}
 use Rattle.work.specs.Work.{started, finished}
 use Rattle.invariant.proofs.State.{Side, Sender, Copies, Placed, Whole, isAnswer}
-use Rattle.invariant.proofs.Frame.{Frame, frame-refl, frame-node, frame-pool, node-enter, job-enter, told-enter, flight-enter}
+use Rattle.invariant.proofs.Frame.{Frame, frame-refl, frame-node, frame-pool, frame-room, node-enter, job-enter, told-enter, flight-enter}
 use Rattle.invariant.proofs.About.{alive-running, alive-waiting}
 use Rattle.invariant.proofs.Died.{job-died, told-died, flight-died, node-died, node-died-other}
 use Rattle.invariant.proofs.SideFrame.{side-node, side-job, side-sends, copies-waiting, copies-running, copies-none, living-untold, sender-message}
@@ -35,11 +35,11 @@ module _ (t : Table) (w : Whole t) where
     stays : (k : List Message) → Every (Sender t) k → Side u k
     stays k e = side-node t u (flight t) k a v (f .told) jobs own other c e (w .side)
 
-    sent : (y : Message) → t .«in_flight» < 128 → Sender t y → Side (send u y) (flight (send u y))
-    sent y room e = side-sends u y (f .sized) (omega (arith, f .used)) (rw (f .flight) (stays (y ∷ flight t) (e, w .side .sender)))
+    sent : (y : Message) → RoomFor t (y .to) → Sender t y → Side (send u y) (flight (send u y))
+    sent y room e = side-sends u y (f .sized) (frame-room t u f (y .to) room) (rw (f .flight) (stays (y ∷ flight t) (e, w .side .sender)))
 
-  pub side-stolen : (a b : ℕ) → a < 16 → b < 16 → nodeAt t a .alive ≡ 1 → t .«in_flight» < 128 → Side (stolen t a b) (flight (stolen t a b))
-  unfolding stolen
+  pub side-stolen : (a b : ℕ) → a < 16 → b < 16 → nodeAt t a .alive ≡ 1 → RoomFor t b → Side (stolen t a b) (flight (stolen t a b))
+  unfolding stolen message
   side-stolen a b al bl alive room =
       let n = nodeAt t a in
       let v = waiting n (b + 1) in
@@ -71,7 +71,7 @@ module _ (t : Table) (w : Whole t) where
       let v = running n 0 0 in
       sent (withNode t a v) a v (frame-node t t here a v al (alive-running n 0 0)) (λ j. simp views)
       (node-same t (w .sized) a v al) (λ m e. node-other t a m v e) (copies-running t a n 0 0 (omega arith) (w .side .copies a al))
-      (result a (n .«running_job») (n .«running_replica») (priceBits (bondAt t (n .«running_job»)))) room
+      (result a (n .«running_job») (n .«running_replica») (priceBits (bondAt t (n .«running_job»)))) (λ e. room)
       (sender-result a (n .«running_job») (n .«running_replica») (priceBits (bondAt t (n .«running_job»))) al alive)
 
   pub side-died : (a : ℕ) → a < 16 → Side (died t a) (flight (died t a))

@@ -54,7 +54,7 @@ module _ (s : Table) (x : Message) (h : Hand s x) (pools : (m j : ℕ) → m < 1
     stays k e = side-node s u (x ∷ flight s) k (x .to) v (f .told) jobs own other c e d
 
     sent : (y : Message) → Sender s y → Sides (send u y)
-    sent y e = side-sends u y (f .sized) (omega (arith, f .used, h .room)) (rw (f .flight) (stays (y ∷ flight s) (e, d .sender .1)))
+    sent y e = side-sends u y (f .sized) (λ e. omega (arith, f .used, h .room)) (rw (f .flight) (stays (y ∷ flight s) (e, d .sender .1)))
 
   -- the same where no pool changed
   module _ (v : Machine) (alive : v .alive ≡ nodeAt s (x .to) .alive) (c : Copies s (x .to) v) where
@@ -80,7 +80,7 @@ module _ (s : Table) (x : Message) (h : Hand s x) (pools : (m j : ℕ) → m < 1
   unfolding noWork
   refuses =
       let y = message NOWORK (x .to) (x .from) 0 0 0 in
-      side-sends s y (h .sized) (h .room)
+      side-sends s y (h .sized) (λ e. h .room)
       (side-list s (x ∷ flight s) (y ∷ flight s) (from-own NOWORK (x .from) 0 0 0 (unfold isAnswer in refl) (h .message .from), d .sender .1) d)
 
   grants : (j : ℕ) → j < 64 → Sides (grant s (x .to) (x .from) j)
@@ -115,7 +115,7 @@ module _ (s : Table) (x : Message) (h : Hand s x) (pools : (m j : ℕ) → m < 1
   unfolding reply
   side-reply k =
       let y = message k 0 (x .from) (x .job) (x .replica) (x .thief) in
-      side-sends s y (h .sized) (h .room) (side-list s (x ∷ flight s) (y ∷ flight s) (from-root k, d .sender .1) d)
+      side-sends s y (h .sized) (λ e. h .room) (side-list s (x ∷ flight s) (y ∷ flight s) (from-root k, d .sender .1) d)
 
   -- the job moves, between machines of which the root was not told
   side-moves : toldAt s 0 (x .from) ≡ 0 → toldAt s 0 (x .thief) ≡ 0 → Sides (reply (withJob s (x .job) (moved (jobAt s (x .job)) (x .from) (x .thief))) x AUTH)
@@ -124,7 +124,7 @@ module _ (s : Table) (x : Message) (h : Hand s x) (pools : (m j : ℕ) → m < 1
       let v = moved (jobAt s (x .job)) (x .from) (x .thief) in
       let y = message AUTH 0 (x .from) (x .job) (x .replica) (x .thief) in
       let f : Frame s (withJob s (x .job) v) = frame-job s s here (x .job) v in
-      side-sends (withJob s (x .job) v) y (f .sized) (omega (arith, f .used, h .room))
+      side-sends (withJob s (x .job) v) y (f .sized) (λ e. omega (arith, f .used, h .room))
       (rw (f .flight) (side-job s (x ∷ flight s) (y ∷ flight s) (x .job) v (h .sized) (h .message .job) (omega arith) (record { holder = λ i. e; thief = λ i n. g }) (from-root AUTH, d .sender .1) d))
 
   -- what came to the root came from a machine of which it was not told

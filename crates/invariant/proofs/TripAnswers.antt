@@ -77,7 +77,7 @@ module _ (s : Table) (x : Message) (h : Hand s x) (c : Conserved s (x ∷ flight
       omega (arith, has-release s (x .to) p j r n (h .sized) (h .message .to) refl (reserves-same n (x .job) (x .replica) (x .thief) j r m ∙ sym (tx j r) ∙ f), ap ind (result-other AUTH j p x k3 refl)))
       (λ j p a e o f. absurd (true≢false (sym f ∙ ack-other SCHEDULE j (jobAt s j .replica) p y (unfold message in refl) refl)))
       g in
-      trip-sends s u y released (h .room) (h .facts .root) (unfold message in λ e. absurd (false≢true e)) t
+      trip-sends s u y released (λ e. h .room) (h .facts .root) (unfold message in λ e. absurd (false≢true e)) t
 
   -- no match: the thief is dead
   auth-idle : x .kind ≡ AUTH → Matches false → Trips s
@@ -116,7 +116,7 @@ module _ (s : Table) (x : Message) (h : Hand s x) (c : Conserved s (x ∷ flight
       (pools-returned s b (h .sized) (h .message .to) hj hr (g .pools))
       (known-plain s y NOWORK (unfold message in refl) (unfold isTrip in refl) refl (unfold message in omega arith))
       (λ j p a e o. omega (arith, has-returned s b (h .sized) (h .message .to) hj hr (g .pools) j p a)) g in
-      trip-sends s u y f (h .room) (h .facts .root) (unfold message in λ e. absurd (false≢true e)) t
+      trip-sends s u y f (λ e. h .room) (h .facts .root) (unfold message in λ e. absurd (false≢true e)) t
 
   pub trip-denied : x .kind ≡ DENIED → Trips (onDenied s x)
   unfolding onDenied
@@ -146,7 +146,7 @@ module _ (s : Table) (x : Message) (h : Hand s x) (c : Conserved s (x ∷ flight
       absurd (omega arith))
       (λ f. omega (arith, has-release s (x .to) p j r n (h .sized) (h .message .to) refl f)))
       g in
-      trip-sends s u y released (h .room) (h .facts .root) (unfold message in λ e. absurd (false≢true e)) t
+      trip-sends s u y released (λ e. h .room) (h .facts .root) (unfold message in λ e. absurd (false≢true e)) t
 
   pub trip-obsolete : x .kind ≡ OBSOLETE → Trips (onObsolete s x)
   unfolding onObsolete

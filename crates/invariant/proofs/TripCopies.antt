@@ -36,7 +36,7 @@ pub has-node : (t : Table) (b : ℕ) (v : Machine) (j r : ℕ) → Sized t → b
     → has (withNode t b v) j r b + (ind (reservesJob (nodeAt t b) j r) + ind (runsJob (nodeAt t b) j r)) ≡ has t j r b + (ind (reservesJob v j r) + ind (runsJob v j r))
 unfolding has
 has-node t b v j r z h e =
-    let d : dead (withNode t b v) b ≡ dead t b = dead-same t (withNode t b v) b (alive-node t b v z h e b) in
+    let d : dead (withNode t b v) b ≡ dead t b = dead-same t (withNode t b v) b (alive-node t b v e b) in
     let n : nodeAt (withNode t b v) b ≡ v = node-same t z b v h in
     let p : poolAt (withNode t b v) b j ≡ poolAt t b j = pool-node t b v b j in
     rw (d, n, p) (omega arith)

@@ -13,7 +13,7 @@ use Rattle.table.specs.declared.Machine.{Machine}
 use Rattle.table.specs.declared.Message.{Message}
 use Rattle.table.specs.declared.Table.{Table}
 use Rattle.table.specs.Views.{noMessage, bondAt, jobAt, nodeAt, poolAt, flight, withNode, withPool}
-use Rattle.table.specs.Messages.{send}
+use Rattle.table.specs.Messages.{send, RoomFor}
 use Rattle.table.specs.Parts.{running, waiting, message, result, FISH, ACK, RESULT}
 use Rattle.table.proofs.Views.{views, pool-node, flight-node, flight-pool}
 use Rattle.events.specs.Events.{admitted}
@@ -39,7 +39,7 @@ trip-admitted t a w al new =
     simp (entered, views) (trip-issued t a 1 al (w .sized) (omega arith) (flight t) (w .trip))
 
 -- ---- a machine's record is replaced by one that is as alive, and a message is sent that counts for no move
-module _ (t : Table) (a : ℕ) (n : Machine) (y : Message) (c : ℕ) (w : Whole t) (al : a < 16) (room : t .«in_flight» < 128)
+module _ (t : Table) (a : ℕ) (n : Machine) (y : Message) (c : ℕ) (w : Whole t) (al : a < 16) (room : RoomFor t (y .to))
     (na : n .alive ≡ nodeAt t a .alive) (ey : y .kind ≡ c) (tc : isTrip c ≡ false) (ac : eqb c ACK ≡ false) (home : toRoot (y .kind) ≡ true → y .to ≡ 0) (ky : Known t y)
     (kept : (j : ℕ) → j < 64 → min 1 (has t j (jobAt t j .replica) a) ≤ has (withNode t a n) j (jobAt t j .replica) a + ind (resultFrom j a y)) where
   trip-sent : Trips (send (withNode t a n) y)
@@ -54,8 +54,8 @@ module _ (t : Table) (a : ℕ) (n : Machine) (y : Message) (c : ℕ) (w : Whole 
       (trip-nothing t (flight t) (w .trip)))
 
 -- ---- Steal
-pub trip-stolen : (t : Table) (a b : ℕ) → Whole t → a < 16 → t .«in_flight» < 128 → Trips (stolen t a b)
-unfolding stolen
+pub trip-stolen : (t : Table) (a b : ℕ) → Whole t → a < 16 → RoomFor t b → Trips (stolen t a b)
+unfolding stolen message
 trip-stolen t a b w al room =
     let n = nodeAt t a in
     let y = message FISH a b 0 0 0 in
@@ -79,7 +79,7 @@ unfolding finished
 trip-finished t a w al room =
     let n = nodeAt t a in
     let y = result a (n .«running_job») (n .«running_replica») (priceBits (bondAt t (n .«running_job»))) in
-    trip-sent t a (running n 0 0) y RESULT w al room (alive-running n 0 0) (unfold result in refl) (unfold isTrip in refl) refl (unfold result in λ e. refl)
+    trip-sent t a (running n 0 0) y RESULT w al (λ e. room) (alive-running n 0 0) (unfold result in refl) (unfold isTrip in refl) refl (unfold result in λ e. refl)
     (known-plain t y RESULT (unfold result in refl) (unfold isTrip in refl) refl (unfold result in w .side .copies a al .running))
     (λ j jl.
     let r = jobAt t j .replica in

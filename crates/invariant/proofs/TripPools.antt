@@ -66,13 +66,13 @@ module _ (s : Table) (x : Message) (h : Hand s x) (g : Trip s (x ∷ flight s)) 
       let r1 : 1 ≤ r = h .facts .job j a .some (λ e. omega arith) in
       omega (arith, has-taken s b i v j r p (h .sized) (w .to) il a r1 va (reserves-taken n i r₀ (x .from) j r r1 (reservesJob-none n j r free))))
       g in
-      trip-sends s u y f (h .room) (h .facts .root) (unfold message in λ e. refl) t
+      trip-sends s u y f (λ e. h .room) (h .facts .root) (unfold message in λ e. refl) t
 
   fish-none : x .kind ≡ FISH → Trips (noWork s (x .to) (x .from))
   unfolding noWork
   fish-none k1 =
       let y = message NOWORK (x .to) (x .from) 0 0 0 in
-      trip-sends s s y (frame-refl s (h .sized)) (h .room) (h .facts .root) (unfold message in λ e. absurd (false≢true e))
+      trip-sends s s y (frame-refl s (h .sized)) (λ e. h .room) (h .facts .root) (unfold message in λ e. absurd (false≢true e))
       (trip-swap s s x y (flight s) FISH NOWORK k1 (unfold message in refl) (unfold isTrip in refl) (unfold isTrip in refl) refl refl (places s (h .facts)) (λ j. refl) (λ k. refl) (g .pools)
       (known-plain s y NOWORK (unfold message in refl) (unfold isTrip in refl) refl (unfold message in omega arith)) (λ j p a c o. omega arith) g)
 
@@ -115,7 +115,7 @@ module _ (s : Table) (x : Message) (h : Hand s x) (g : Trip s (x ∷ flight s)) 
       let pu : poolAt u p j ≡ r = pool-node q b (waiting n 0) p j ∙ ap (λ (m : ℕ). poolAt q m j) (sym (es .0)) ∙ ap (poolAt q b) (sym (es .1)) ∙ enter-pool s b (x .job) (x .replica) (h .sized) (w .to) (w .job) po ∙ es .2 in
       has-by-pool u j r p pu)
       g in
-      trip-sends s u y f (h .room) (h .facts .root) (unfold message in λ e. refl) t
+      trip-sends s u y f (λ e. h .room) (h .facts .root) (unfold message in λ e. refl) t
 
   -- ---- NOWORK
   pub trip-nowork : x .kind ≡ NOWORK → Trips (onNoWork s x)

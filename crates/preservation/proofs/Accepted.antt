@@ -12,9 +12,9 @@ use Rattle.lists.proofs.Count.{every-at}
 use Rattle.pricer.specs.Price.{priceBits}
 use Rattle.table.specs.declared.Table.{Table}
 use Rattle.table.specs.Views.{noMessage, bondAt, nodeAt, poolAt, messageAt, flight, withJob, withNode, withPool, enter}
-use Rattle.table.specs.Messages.{pull}
+use Rattle.table.specs.Messages.{RoomFor, pull}
 use Rattle.table.specs.Parts.{opened, running, waiting, lives, message, result}
-use Rattle.table.proofs.Views.{Sized, views, sized-job, sized-node, sized-pool, length-flight}
+use Rattle.table.proofs.Views.{Sized, views, sized-job, sized-node, sized-pool, length-flight, room-node}
 use Rattle.table.proofs.Messages.{message-flight, sized-pull}
 use Rattle.elements.specs.Elements.{copyOk}
 use Rattle.slots.specs.Slots.{messageOk}
@@ -59,13 +59,13 @@ module _ (t : Table) (s : Sized t) (o : Ok t) where
 
   -- ---- Steal
 
-  pub ok-stolen : (a b : ℕ) → a < t .machines → b < t .machines → nodeAt t a .alive ≡ 1 → t .«in_flight» < 128 → Ok (stolen t a b)
+  pub ok-stolen : (a b : ℕ) → a < t .machines → b < t .machines → nodeAt t a .alive ≡ 1 → RoomFor t b → Ok (stolen t a b)
   unfolding stolen message
   ok-stolen a b h k al l =
       let M = t .machines in
       let v = waiting (nodeAt t a) (b + 1) in
       let uo = ok-waiting t s o a (b + 1) (omega (arith, machines-most t (o .sizes))) al (omega arith) in
-      ok-send (withNode t a v) (sized-node t a v s) uo (message 1 a b 0 0 0) (simp views l) (simp wide (rw (lt-ltb a M h, lt-ltb b M k)))
+      ok-send (withNode t a v) (sized-node t a v s) uo (message 1 a b 0 0 0) (room-node t a v (unfold waiting in refl) b l) (simp wide (rw (lt-ltb a M h, lt-ltb b M k)))
 
   -- ---- Deliver
 
@@ -110,5 +110,5 @@ module _ (t : Table) (s : Sized t) (o : Ok t) where
       let c = running-copy M E B a w (o .node a a16) al n in
       let v = running w 0 0 in
       let uo : Ok (withNode t a v) = ok-node t s o a v a16 (unfold running in refl) (node-idle M E B a w (o .node a a16) al) in
-      ok-send (withNode t a v) (sized-node t a v s) uo (result a j r (priceBits (bondAt t j))) (simp views l)
+      ok-send (withNode t a v) (sized-node t a v s) uo (result a j r (priceBits (bondAt t j))) (λ e. simp views l)
       (simp wide (rw (lt-ltb a M h, lt-ltb 0 M (omega (arith, machines-some t (o .sizes))), c)))

@@ -6,6 +6,7 @@ use mathlib.Core.Logic.{_≢_}
 use native.Mathlib.Omega.{arith}
 use Rattle.table.specs.declared.Table.{Table}
 use Rattle.table.specs.Views.{nodeAt, poolAt, toldAt}
+use Rattle.table.specs.Messages.{RoomFor}
 use Rattle.table.proofs.Views.{Sized}
 use Rattle.events.specs.Events.{admitted, delivered, died}
 use Rattle.steal.specs.Steal.{stolen}
@@ -32,7 +33,7 @@ module _ (t : Table) (v : Valid t) where
   pub valid-admitted : (a : ℕ) → a < t .entries → Valid (admitted t a)
   valid-admitted a l = record { sized = sized-admitted t s a; ok = ok-admitted t s o a l }
 
-  pub valid-stolen : (a b : ℕ) → a < t .machines → b < t .machines → nodeAt t a .alive ≡ 1 → t .«in_flight» < 128 → Valid (stolen t a b)
+  pub valid-stolen : (a b : ℕ) → a < t .machines → b < t .machines → nodeAt t a .alive ≡ 1 → RoomFor t b → Valid (stolen t a b)
   valid-stolen a b la lb alive room = record { sized = sized-stolen t s a b room; ok = ok-stolen t s o a b la lb alive room }
 
   pub valid-delivered : (k : ℕ) → k < t .«in_flight» → Valid (delivered t k)

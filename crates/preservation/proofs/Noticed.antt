@@ -48,7 +48,7 @@ returned-frame t a s h =
       job = λ k. simp wide;
       most = simp wide;
       size = simp wide;
-      alive = λ k. alive-node (enter t a j r) a (release v) (sized-enter t a j r s) h (unfold release in simp views) k ∙ simp views;
+      alive = λ k. alive-node (enter t a j r) a (release v) (unfold release in simp views) k ∙ simp views;
     }
 
 reclaimed-frame : (t : Table) (a b : ℕ) → Sized t → a < 16 → Frame t (reclaimed t a b)
@@ -66,7 +66,7 @@ unwaited-frame t a b s h =
       job = λ k. simp wide;
       most = simp wide;
       size = simp wide;
-      alive = λ k. alive-node t a (waiting (nodeAt t a) 0) s h (unfold waiting in refl) k;
+      alive = λ k. alive-node t a (waiting (nodeAt t a) 0) (unfold waiting in refl) k;
     }))
     (λ e. rw (e, unwaited) (same t))
 

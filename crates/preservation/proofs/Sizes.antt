@@ -11,9 +11,9 @@ use Rattle.table.specs.declared.Job.{Job}
 use Rattle.table.specs.declared.Table.{Table}
 use Rattle.table.specs.declared.Message.{Message}
 use Rattle.table.specs.Views.{noMachine, jobAt, nodeAt, poolAt, toldAt, messageAt, withMessages, enter}
-use Rattle.table.specs.Messages.{pull, lowest, wipe, notTo, notFrom}
-use Rattle.table.specs.Parts.{opened, reserves, release, returned}
-use Rattle.table.proofs.Views.{Sized, views, sized-job, sized-node, sized-pool, sized-told}
+use Rattle.table.specs.Messages.{RoomFor, pull, lowest, wipe, notTo, notFrom}
+use Rattle.table.specs.Parts.{opened, reserves, release, waiting, returned, message}
+use Rattle.table.proofs.Views.{Sized, views, sized-job, sized-node, sized-pool, sized-told, room-node}
 use Rattle.table.proofs.Messages.{sized-send, sized-pull, sized-sift}
 use Rattle.table.proofs.Wipe.{sized-wipe}
 use Rattle.victim_handlers.specs.VictimHandlers.{noWork, grant, onFish, onAuth, onDenied, onObsolete}
@@ -48,44 +48,44 @@ module _ (t : Table) (x : Message) (s : Sized t) (l : t .«in_flight» < 128) wh
   unfolding onFish grant noWork
   fish =
       byBool (not (eqb (nodeAt t (x .to) .«reserved_replica») 0))
-      (λ a. rw (a, onFish) (sized-send t s _ l))
+      (λ a. rw (a, onFish) (sized-send t s _ (λ e. l)))
       (λ a. byBool (leb 64 (lowest t (x .to)))
-      (λ b. rw (a, b, onFish) (sized-send t s _ l))
-      (λ b. rw (a, b, onFish) (sized-send _ (sized-node _ (x .to) _ (sized-pool t (x .to) (lowest t (x .to)) 0 s)) _ (simp views l))))
+      (λ b. rw (a, b, onFish) (sized-send t s _ (λ e. l)))
+      (λ b. rw (a, b, onFish) (sized-send _ (sized-node _ (x .to) _ (sized-pool t (x .to) (lowest t (x .to)) 0 s)) _ (λ e. simp views l))))
 
   req : Sized (onReq t x)
   unfolding onReq reply
   req =
       byBool (eqb (jobAt t (x .job) .state) 2 || not (eqb (jobAt t (x .job) .replica) (x .replica)))
-      (λ a. rw (a, onReq) (sized-send t s _ l))
+      (λ a. rw (a, onReq) (sized-send t s _ (λ e. l)))
       (λ a. byBool (not (eqb (toldAt t 0 (x .thief)) 0) || not (eqb (jobAt t (x .job) .moving) 0))
-      (λ b. rw (a, b, onReq) (sized-send t s _ l))
-      (λ b. rw (a, b, onReq) (sized-send _ (sized-job t (x .job) _ s) _ (simp views l))))
+      (λ b. rw (a, b, onReq) (sized-send t s _ (λ e. l)))
+      (λ b. rw (a, b, onReq) (sized-send _ (sized-job t (x .job) _ s) _ (λ e. simp views l))))
 
   auth : Sized (onAuth t x)
   unfolding onAuth
   auth =
       byBool (reserves (nodeAt t (x .to)) (x .job) (x .replica) (x .thief))
-      (λ a. rw (a, onAuth) (sized-send _ (sized-node t (x .to) _ s) _ (simp views l)))
+      (λ a. rw (a, onAuth) (sized-send _ (sized-node t (x .to) _ s) _ (λ e. simp views l)))
       (λ a. rw (a, onAuth) s)
 
   denied : Sized (onDenied t x)
   unfolding onDenied noWork
   denied =
       byBool (reserves (nodeAt t (x .to)) (x .job) (x .replica) (x .thief))
-      (λ a. rw (a, onDenied) (sized-send _ (sized-returned t (x .to) s) _ (simp used-returned l)))
+      (λ a. rw (a, onDenied) (sized-send _ (sized-returned t (x .to) s) _ (λ e. simp used-returned l)))
       (λ a. rw (a, onDenied) s)
 
   obsolete : Sized (onObsolete t x)
   unfolding onObsolete noWork
   obsolete =
       byBool (reserves (nodeAt t (x .to)) (x .job) (x .replica) (x .thief))
-      (λ a. rw (a, onObsolete) (sized-send _ (sized-node t (x .to) _ s) _ (simp views l)))
+      (λ a. rw (a, onObsolete) (sized-send _ (sized-node t (x .to) _ s) _ (λ e. simp views l)))
       (λ a. rw (a, onObsolete) s)
 
   schedule : Sized (onSchedule t x)
   unfolding onSchedule
-  schedule = sized-send _ (sized-node _ (x .to) _ (sized-enter t (x .to) (x .job) (x .replica) s)) _ (simp (views, used-enter) l)
+  schedule = sized-send _ (sized-node _ (x .to) _ (sized-enter t (x .to) (x .job) (x .replica) s)) _ (λ e. simp (views, used-enter) l)
 
   ack : Sized (onAck t x)
   unfolding onAck
@@ -130,9 +130,9 @@ module _ (t : Table) (s : Sized t) where
   unfolding admitted
   sized-admitted a = sized-enter _ 0 a 1 (sized-job t a (opened 1) s)
 
-  pub sized-stolen : (a b : ℕ) → t .«in_flight» < 128 → Sized (stolen t a b)
-  unfolding stolen
-  sized-stolen a b l = sized-send _ (sized-node t a _ s) _ (simp views l)
+  pub sized-stolen : (a b : ℕ) → RoomFor t b → Sized (stolen t a b)
+  unfolding stolen message
+  sized-stolen a b l = sized-send _ (sized-node t a _ s) _ (room-node t a (waiting (nodeAt t a) (b + 1)) (unfold waiting in refl) b l)
 
   pub sized-delivered : (k : ℕ) → k < t .«in_flight» → Sized (delivered t k)
   unfolding delivered
@@ -144,7 +144,7 @@ module _ (t : Table) (s : Sized t) where
 
   pub sized-finished : (a : ℕ) → t .«in_flight» < 128 → Sized (finished t a)
   unfolding finished
-  sized-finished a l = sized-send _ (sized-node t a _ s) _ (simp views l)
+  sized-finished a l = sized-send _ (sized-node t a _ s) _ (λ e. simp views l)
 
   pub sized-died : (a : ℕ) → Sized (died t a)
   unfolding died

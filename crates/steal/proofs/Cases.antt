@@ -11,6 +11,7 @@ use Rattle.lists.proofs.Cases.{byBool}
 use Rattle.table.specs.declared.Table.{Table}
 use Rattle.table.specs.declared.Answer.{Answer}
 use Rattle.table.specs.Views.{nodeAt, toldAt, refuse}
+use Rattle.table.specs.Messages.{RoomFor}
 use Rattle.table.specs.Parts.{lives, accept}
 use Rattle.steal.specs.Steal.{stolen, stealOf}
 
@@ -19,7 +20,7 @@ pub record Stealing (t : Table) (a b : ℕ) : Type 0 where
   pub victim : b < t .machines
   pub alive : nodeAt t a .alive ≡ 1
   pub untold : toldAt t a b ≡ 0
-  pub room : t .«in_flight» < 128
+  pub room : RoomFor t b
 
 module _ (t : Table) (a b : ℕ) (h : a < t .machines) (k : b < t .machines) where
   pub by-steal : (P : Answer → Type 0) → ((n : ℕ) → n ≢ 0 → leb 10 n && leb n 99 ≡ true → P (refuse n t)) → (Stealing t a b → P (accept (stolen t a b))) → P (stealOf t a b)
@@ -31,7 +32,13 @@ module _ (t : Table) (a b : ℕ) (h : a < t .machines) (k : b < t .machines) whe
       (λ e3. byBool (not (eqb (toldAt t a b) 0)) (λ e. rw (e1, e2, e3, e, stealOf) (refused 14 (λ z. omega arith) refl))
       (λ e4. byBool (leb 128 (t .«in_flight»)) (λ e. rw (e1, e2, e3, e4, e, stealOf) (refused 16 (λ z. omega arith) refl))
       (λ e5. rw (e1, e2, e3, e4, e5, stealOf)
-      (f (record { machine = h; victim = k; alive = eqb-true _ 1 (not-false (lives t a) e1); untold = eqb-true (toldAt t a b) 0 (not-false _ e4); room = leb-false 128 (t .«in_flight») e5 })))))))
+      (f (record {
+        machine = h;
+        victim = k;
+        alive = eqb-true _ 1 (not-false (lives t a) e1);
+        untold = eqb-true (toldAt t a b) 0 (not-false _ e4);
+        room = λ l. leb-false 128 (t .«in_flight») e5;
+      })))))))
 
   pub steal-accepted : stealOf t a b .number ≡ 0 → Stealing t a b × (accept (stolen t a b) ≡ stealOf t a b)
   steal-accepted = by-steal (λ x. x .number ≡ 0 → Stealing t a b × (accept (stolen t a b) ≡ x)) (λ n d r e. absurd (d e)) (λ s e. (s, refl))
