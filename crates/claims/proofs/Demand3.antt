@@ -5,12 +5,10 @@ use mathlib.Core.Path.{_≡_, refl, sym, _∙_}
 use mathlib.Core.List.{List, _++_}
 use native.Mathlib.Omega.{arith}
 use Rattle.book.specs.Book.{bookVerdict}
-use Rattle.table.specs.declared.Job.{Job}
 use Rattle.table.specs.declared.Table.{Table}
-use Rattle.table.specs.declared.Answer.{Answer}
 use Rattle.table.specs.Views.{jobAt}
 use Rattle.opening.specs.Opening.{openOf}
-use Rattle.preservation.proofs.Answers.{Valid}
+use Rattle.preservation.proofs.Ok.{Valid}
 use Rattle.invariant.proofs.State.{Whole}
 use Rattle.invariant.proofs.Keeps.{whole-run}
 use Rattle.dispatcher.specs.Step.{runOf, answersOf}

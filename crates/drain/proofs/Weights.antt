@@ -76,7 +76,11 @@ sent w s u y f room h =
     let fl : nodeAt u (y .to) .alive ≡ 1 → flight (push u y) ≡ flight s ++ y ∷ [] =
     λ e. flight-push u (f .sized) y (frame-room s u f (y .to) room e) ∙ ap (λ (l : List Message). l ++ y ∷ []) (f .flight) in
     byBool (eqb (nodeAt u (y .to) .alive) 1)
-    (λ e. rw (e, send) (record { weighs = rw (fl (eqb-true _ 1 e)) (omega (arith, weight-append (flight s) y)); told = simp views (f .told); alive = simp views (f .alive) }))
+    (λ e. rw (e, send) (record {
+      weighs = rw (fl (eqb-true _ 1 e)) (omega (arith, weight-append (flight s) y));
+      told = simp views (f .told);
+      alive = simp views (f .alive);
+    }))
     (λ e. rw (e, send) (quiet w s u f))
 
 either : (b : Bool) (w : ℕ) (s u v : Table) → Sent w s u → Sent w s v → Sent w s (cond b u v)
@@ -103,11 +107,13 @@ module _ (s : Table) (x : Message) (h : Hand s x) where
       let b = x .to in
       let j = lowest s b in
       let v = reserve (nodeAt s b) j (poolAt s b j) (x .from) in
-      let none : Sent 4 s (send s (message NOWORK b (x .from) 0 0 0)) = sent 4 s s (message NOWORK b (x .from) 0 0 0) own (λ e. h .room) (omega arith) in
+      let none : Sent 4 s (send s (message NOWORK b (x .from) 0 0 0)) =
+      sent 4 s s (message NOWORK b (x .from) 0 0 0) own (λ e. h .room) (omega arith) in
       either (not (eqb (nodeAt s b .«reserved_replica») 0)) 4 s _ _ none
       (either (leb 64 j) 4 s _ _ none
       (sent 4 s (withNode (withPool s b j 0) b v) (message REQ b 0 j (poolAt s b j) (x .from))
-      (frame-node s _ (frame-pool s s own b j 0) b v (h .message .to) (alive-reserve (nodeAt s b) j (poolAt s b j) (x .from))) (λ e. h .room) (omega arith)))
+      (frame-node s _ (frame-pool s s own b j 0) b v (h .message .to) (alive-reserve (nodeAt s b) j (poolAt s b j) (x .from)))
+      (λ e. h .room) (omega arith)))
 
   req : Sent 3 s (onReq s x)
   unfolding onReq weightOf
@@ -124,7 +130,8 @@ module _ (s : Table) (x : Message) (h : Hand s x) where
   unfolding onAuth message weightOf
   auth =
       either (reserves (nodeAt s (x .to)) (x .job) (x .replica) (x .thief)) 2 s _ s
-      (sent 2 s (withNode s (x .to) (release (nodeAt s (x .to)))) (message SCHEDULE (x .to) (x .thief) (x .job) (x .replica) 0) released (λ e. h .room) (omega arith))
+      (sent 2 s (withNode s (x .to) (release (nodeAt s (x .to))))
+      (message SCHEDULE (x .to) (x .thief) (x .job) (x .replica) 0) released (λ e. h .room) (omega arith))
       (nothing 2)
 
   denied : Sent 1 s (onDenied s x)
@@ -146,7 +153,8 @@ module _ (s : Table) (x : Message) (h : Hand s x) where
   schedule =
       let b = x .to in
       sent 1 s (withNode (enter s b (x .job) (x .replica)) b (waiting (nodeAt s b) 0)) (message ACK b 0 (x .job) (x .replica) 0)
-      (frame-node s _ (frame-enter s s own b (x .job) (x .replica)) b (waiting (nodeAt s b) 0) (h .message .to) (alive-waiting (nodeAt s b) 0)) (λ e. h .room) (omega arith)
+      (frame-node s _ (frame-enter s s own b (x .job) (x .replica)) b (waiting (nodeAt s b) 0) (h .message .to) (alive-waiting (nodeAt s b) 0))
+      (λ e. h .room) (omega arith)
 
   ack : Sent 0 s (onAck s x)
   unfolding onAck

@@ -6,13 +6,14 @@ use Rattle.pricer.specs.Price.{priceBits}
 use Rattle.table.specs.declared.Machine.{Machine}
 use Rattle.table.specs.declared.Table.{Table}
 use Rattle.table.specs.Views.{bondAt, nodeAt, poolAt, flight, withJob, withNode, withPool, enter}
-use Rattle.table.specs.Messages.{RoomFor}
 use Rattle.table.specs.Parts.{opened, reserves, running, waiting, message, result, FISH}
 use Rattle.table.proofs.Views.{views, node-pool}
 use Rattle.events.specs.Events.{admitted}
 use Rattle.steal.specs.Steal.{stolen}
+use Rattle.steal.proofs.Cases.{Stealing}
 use Rattle.work.specs.Work.{started, finished}
-use Rattle.invariant.proofs.State.{Conserved, Whole, isAnswer}
+use Rattle.work.proofs.Cases.{Starting, Finishing}
+use Rattle.invariant.proofs.State.{Conserved, Whole, machine-16, isAnswer}
 use Rattle.invariant.proofs.Frame.{Frame, frame-refl, frame-job, frame-pool, frame-node, frame-enter, part-kept, node-enter}
 use Rattle.invariant.proofs.About.{plain, reserves-running, reserves-waiting, alive-running, alive-waiting}
 use Rattle.invariant.proofs.ConservedFrame.{SameReserved, conserved-plain, conserved-quiet}
@@ -31,17 +32,20 @@ module _ (t : Table) (w : Whole t) where
   same-node : (a : ℕ) (v : Machine) → a < 16 → ((j q th : ℕ) → reserves v j q th ≡ reserves (nodeAt t a) j q th) → SameReserved t (withNode t a v)
   same-node a v l e m j q th = part-kept (λ n. reserves n j q th) t t a v (w .sized) l (λ k. refl) (e j q th) m
 
-  pub conserved-stolen : (a b : ℕ) → a < 16 → RoomFor t b → Conserved (stolen t a b) (flight (stolen t a b))
+  pub conserved-stolen : (a b : ℕ) → Stealing t a b → Conserved (stolen t a b) (flight (stolen t a b))
   unfolding stolen message
-  conserved-stolen a b l room =
+  conserved-stolen a b d =
+      let l = machine-16 t w a (d .machine) in
       let n = nodeAt t a in
       let v = waiting n (b + 1) in
       conserved-plain t (withNode t a v) (message FISH a b 0 0 0) (frame-node t t here a v l (alive-waiting n (b + 1)))
-      (same-node a v l (λ j q th. reserves-waiting n (b + 1) j q th)) room (w .facts .root) (unfold plain isAnswer message in refl) (w .conserved)
+      (same-node a v l (λ j q th. reserves-waiting n (b + 1) j q th)) (d .room)
+      (w .facts .root) (unfold plain isAnswer message in refl) (w .conserved)
 
-  pub conserved-started : (a b : ℕ) → a < 16 → Conserved (started t a b) (flight (started t a b))
+  pub conserved-started : (a b : ℕ) → Starting t a b → Conserved (started t a b) (flight (started t a b))
   unfolding started
-  conserved-started a b l =
+  conserved-started a b d =
+      let l = machine-16 t w a (d .machine) in
       let n = nodeAt t a in
       let v = running n b (poolAt t a b) in
       let p = withPool t a b 0 in
@@ -49,10 +53,13 @@ module _ (t : Table) (w : Whole t) where
       conserved-quiet t (withNode p a v) (frame-node t p f a v l (alive-running n b (poolAt t a b)))
       (λ m j q th. part-kept (λ n. reserves n j q th) t p a v (f .sized) l (λ k. rw (node-pool t a b 0 k)) (reserves-running n b (poolAt t a b) j q th) m) (w .conserved)
 
-  pub conserved-finished : (a : ℕ) → a < 16 → t .«in_flight» < 128 → Conserved (finished t a) (flight (finished t a))
+  pub conserved-finished : (a : ℕ) → Finishing t a → Conserved (finished t a) (flight (finished t a))
   unfolding finished
-  conserved-finished a l room =
+  conserved-finished a d =
+      let l = machine-16 t w a (d .machine) in
       let n = nodeAt t a in
       let v = running n 0 0 in
-      conserved-plain t (withNode t a v) (result a (n .«running_job») (n .«running_replica») (priceBits (bondAt t (n .«running_job»)))) (frame-node t t here a v l (alive-running n 0 0))
-      (same-node a v l (λ j q th. reserves-running n 0 0 j q th)) (λ e. room) (w .facts .root) (unfold plain isAnswer result in refl) (w .conserved)
+      let y = result a (n .«running_job») (n .«running_replica») (priceBits (bondAt t (n .«running_job»))) in
+      conserved-plain t (withNode t a v) y (frame-node t t here a v l (alive-running n 0 0))
+      (same-node a v l (λ j q th. reserves-running n 0 0 j q th)) (λ e. d .room)
+      (w .facts .root) (unfold plain isAnswer result in refl) (w .conserved)

@@ -74,7 +74,8 @@ module _ (s : Table) (x : Message) (h : Hand s x) (fish : x .kind ≡ FISH) (c :
     grants : Conserved (grant s (x .to) (x .from) j₀) (flight (grant s (x .to) (x .from) j₀))
     unfolding grant
     grants =
-        conserved-sends u y (frame-u .sized) (λ e. omega (arith, frame-u .used, h .room)) (frame-u .alive 0 ∙ h .facts .root) (unfold message in λ e. refl)
+        conserved-sends u y (frame-u .sized) (λ e. omega (arith, frame-u .used, h .room))
+        (frame-u .alive 0 ∙ h .facts .root) (unfold message in λ e. refl)
         (rw (frame-u .flight) granted)
 
   pub conserved-fish : Conserved (onFish s x) (flight (onFish s x))

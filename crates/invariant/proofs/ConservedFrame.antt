@@ -54,7 +54,8 @@ conserved-takes t k s h c =
     takes t k s h Conserved conserved-apart (λ m th j q ml tl alive told. count-taken t k s h (about m th j q) ∙ c m th j q ml tl alive told)
 
 -- over the table s, an updated table u sends a message that is about no copy
-module _ (s u : Table) (y : Message) (f : Frame s u) (re : SameReserved s u) (room : RoomFor s (y .to)) (root : nodeAt s 0 .alive ≡ 1) (p : plain (y .kind) ≡ true) where
+module _ (s u : Table) (y : Message) (f : Frame s u) (re : SameReserved s u)
+    (room : RoomFor s (y .to)) (root : nodeAt s 0 .alive ≡ 1) (p : plain (y .kind) ≡ true) where
   pub conserved-plain : Conserved s (flight s) → Conserved (send u y) (flight (send u y))
   conserved-plain c =
       conserved-sends u y (f .sized) (frame-room s u f (y .to) room) (f .alive 0 ∙ root) (λ e. absurd (plain-not y p e))

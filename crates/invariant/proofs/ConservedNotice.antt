@@ -18,7 +18,8 @@ use Rattle.table.specs.Views.{nodeAt, toldAt, flight}
 use Rattle.table.specs.Messages.{notFrom}
 use Rattle.table.specs.Parts.{copyIs, reserves, REQ}
 use Rattle.notice.specs.Notice.{quieted, noticed}
-use Rattle.invariant.proofs.State.{Conserved, Whole, Sender, isAnswer, about}
+use Rattle.notice.proofs.Cases.{Noticing}
+use Rattle.invariant.proofs.State.{Conserved, Whole, machine-16, Sender, isAnswer, about}
 use Rattle.invariant.proofs.About.{reserves-release, reserves-waiting, alive-release, alive-waiting}
 use Rattle.invariant.proofs.Quieted.{reclaimedNode, unwaitedNode, quietedNode, flight-quieted, told-quieted, told-quieted-other, told-quieted-others, node-quieted, node-quieted-other}
 use Rattle.invariant.proofs.Reissued.{node-reissue, told-reissue, flight-reissue}
@@ -90,14 +91,20 @@ about-stays t l a b m th j q nz nm h =
 
 -- ---- the event
 
-module _ (t : Table) (a b : ℕ) (w : Whole t) (al : a < 16) (bl : b < 16) (gone : nodeAt t b .alive ≢ 1) where
+module _ (t : Table) (w : Whole t) (a b : ℕ) (n : Noticing t a b) where
+  al : a < 16
+  al = machine-16 t w a (n .machine)
+
+  bl : b < 16
+  bl = machine-16 t w b (n .named)
+
   not-root : b ≢ 0
-  not-root e = gone (ap (λ (k : ℕ). nodeAt t k .alive) e ∙ w .facts .root)
+  not-root e = n .dead (ap (λ (k : ℕ). nodeAt t k .alive) e ∙ w .facts .root)
 
   conserved-quieted : Conserved (quieted t a b) (filter (notFrom b a) (flight t))
   conserved-quieted m th j q ml tl alive told =
       let old : nodeAt t m .alive ≡ 1 → toldAt t m th ≡ 0 → count (about m th j q) (filter (notFrom b a) (flight t)) ≡ ind (reserves (nodeAt t m) j q th) = λ v o.
-      about-stays t (flight t) a b m th j q not-root (λ d. gone (rw (← d) v)) (w .side .sender) ∙ w .conserved m th j q ml tl v o in
+      about-stays t (flight t) a b m th j q not-root (λ d. n .dead (rw (← d) v)) (w .side .sender) ∙ w .conserved m th j q ml tl v o in
       byEq m a
       (λ e.
       let own : nodeAt (quieted t a b) m ≡ quietedNode (nodeAt t m) b = rw e (node-quieted t a b (w .sized) al) in

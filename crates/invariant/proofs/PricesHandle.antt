@@ -52,7 +52,8 @@ module _ (s : Table) where
   by-apart t n k l p = record { sent = p .sent; shown = simp views (p .shown) }
 
   -- a message that is no RESULT, or carries the right price, is sent
-  pub by-send : (u : Table) (y : Message) → Sized u → RoomFor u (y .to) → RightPrice s y → PricesBy s u (flight u) → PricesBy s (send u y) (flight (send u y))
+  pub by-send : (u : Table) (y : Message) → Sized u → RoomFor u (y .to) → RightPrice s y → PricesBy s u (flight u)
+      → PricesBy s (send u y) (flight (send u y))
   by-send u y z room e p =
       sends (PricesBy s) by-apart u y z room
       (λ q. record { sent = every-append (RightPrice s) (flight u) y (q .sent .1) (q .sent .0); shown = q .shown })
@@ -79,7 +80,9 @@ module _ (s : Table) (x : Message) (h : Hand s x) (p : PricesBy s s (flight s)) 
 
   -- a message of another kind than RESULT, from a table without new jobs
   sent : (u : Table) (k f o j r th : ℕ) → Frame s u → Right u → eqb k RESULT ≡ false → Right (send u (message k f o j r th))
-  sent u k f o j r th g q n = by-send s u (message k f o j r th) (g .sized) (λ e. omega (arith, g .used, h .room)) (λ e. absurd (eqb-false k RESULT n (sym (kind-message k f o j r th) ∙ e))) q
+  sent u k f o j r th g q n =
+      by-send s u (message k f o j r th) (g .sized) (λ e. omega (arith, g .used, h .room))
+      (λ e. absurd (eqb-false k RESULT n (sym (kind-message k f o j r th) ∙ e))) q
 
   -- machine b's record is new, over a table with the jobs of s
   sent-node : (u : Table) (v : Machine) (k o j r th : ℕ) → Frame s u → ((i : ℕ) → jobAt u i ≡ jobAt s i) → v .alive ≡ nodeAt s (x .to) .alive → eqb k RESULT ≡ false

@@ -20,9 +20,10 @@ use Rattle.table.specs.Views.{jobAt, nodeAt, toldAt, flight}
 use Rattle.table.specs.Messages.{notFrom}
 use Rattle.table.specs.Parts.{opened}
 use Rattle.notice.specs.Notice.{lost, quieted, reissue, noticed}
+use Rattle.notice.proofs.Cases.{Noticing}
 use Rattle.preservation.proofs.Facts.{MessageFacts}
 use Rattle.preservation.proofs.Sizes.{sized-quieted}
-use Rattle.invariant.proofs.State.{Side, Sender, Copies, Placed, Whole}
+use Rattle.invariant.proofs.State.{Side, Sender, Copies, Placed, Whole, machine-16}
 use Rattle.invariant.proofs.SideFrame.{copies-release, copies-waiting, living-untold}
 use Rattle.invariant.proofs.Quieted.{reclaimedNode, unwaitedNode, quietedNode, flight-quieted, told-quieted-other, told-quieted-others, node-quieted, node-quieted-other}
 use Rattle.notice.proofs.Parts.{job-quieted}
@@ -46,7 +47,13 @@ pub reissued-grows : (v : Job) (b : ℕ) → v .replica ≤ reissuedJob v b .rep
 unfolding reissuedJob opened
 reissued-grows v b = byBool (lost v b) (λ e. rw e (omega arith)) (λ e. rw e (omega arith))
 
-module _ (t : Table) (a b : ℕ) (w : Whole t) (al : a < 16) (bl : b < 16) (gone : nodeAt t b .alive ≢ 1) where
+module _ (t : Table) (w : Whole t) (a b : ℕ) (n : Noticing t a b) where
+  al : a < 16
+  al = machine-16 t w a (n .machine)
+
+  bl : b < 16
+  bl = machine-16 t w b (n .named)
+
   abbrev k : List Message
   k = filter (notFrom b a) (flight t)
 
@@ -112,7 +119,8 @@ module _ (t : Table) (a b : ℕ) (w : Whole t) (al : a < 16) (bl : b < 16) (gone
     placed-opened : (r : ℕ) → Placed u (opened r)
     unfolding opened
     placed-opened r = record {
-      holder = λ e. told-same 0 0 (omega arith) (λ p q. gone (ap (λ (i : ℕ). nodeAt t i .alive) (sym q) ∙ w .facts .root)) ∙ living-untold t (w .facts) 0 0 (omega arith) (omega arith) (w .facts .root);
+      holder = λ e. told-same 0 0 (omega arith) (λ p q. n .dead (ap (λ (i : ℕ). nodeAt t i .alive) (sym q) ∙ w .facts .root))
+          ∙ living-untold t (w .facts) 0 0 (omega arith) (omega arith) (w .facts .root);
       thief = λ e (f : _≡_ {A = ℕ} 0 1). absurd (omega arith);
     }
 

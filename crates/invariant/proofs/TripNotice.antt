@@ -17,6 +17,7 @@ use Rattle.table.specs.Messages.{sift, notFrom}
 use Rattle.table.specs.Parts.{opened, waiting, returned}
 use Rattle.table.proofs.Views.{Sized, views, sized-job, job-other, pool-node}
 use Rattle.notice.specs.Notice.{informed, unwaited, reclaimed, quieted, lost, reissueOne, reissue, noticed}
+use Rattle.notice.proofs.Cases.{Noticing}
 use Rattle.preservation.proofs.Sizes.{sized-enter, sized-informed, sized-reclaimed, sized-quieted}
 use Rattle.lists.specs.Scan.{filter, upTo}
 use Rattle.lists.proofs.Cases.{byBool}
@@ -24,7 +25,7 @@ use Rattle.invariant.proofs.Frame.{Frame, frame-refl, frame-node, frame
 use Rattle.invariant.proofs.About.{alive-waiting}
 use Rattle.invariant.proofs.Quieted.{flight-quieted}
 use Rattle.invariant.proofs.Reissued.{flight-reissue}
-use Rattle.invariant.proofs.State.{Trip, Whole}
+use Rattle.invariant.proofs.State.{Trip, Whole, machine-16}
 use Rattle.invariant.proofs.TripLaws.{dead-is, Places, places}
 use Rattle.invariant.proofs.TripSend.{trip-same, trip-table}
 use Rattle.invariant.proofs.TripCopies.{has-waiting, has-returned, pools-returned}
@@ -63,9 +64,12 @@ job-reclaimed : (t : Table) (a b j : ℕ) → jobAt (reclaimed t a b) j ≡ jobA
 unfolding reclaimed returned
 job-reclaimed t a b j = byBool (not (eqb (nodeAt t a .«reserved_replica») 0) && eqb (nodeAt t a .«reserved_thief») b) (λ e. rw (e, reclaimed) (simp (views, entered))) (λ e. rw (e, reclaimed))
 
-module _ (t : Table) (a b : ℕ) (w : Whole t) (al : a < 16) (gone : nodeAt t b .alive ≢ 1) where
+module _ (t : Table) (w : Whole t) (a b : ℕ) (n : Noticing t a b) where
+  al : a < 16
+  al = machine-16 t w a (n .machine)
+
   not-root : b ≢ 0
-  not-root e = gone (rw e (w .facts .root))
+  not-root e = n .dead (rw e (w .facts .root))
 
   trip-quieted : Trip (quieted t a b) (filter (notFrom b a) (flight t))
   unfolding quieted informed sift
@@ -79,7 +83,9 @@ module _ (t : Table) (a b : ℕ) (w : Whole t) (al : a < 16) (gone : nodeAt t b 
       let ps : Places t = places t (w .facts) in
       let pi : Places i = λ j jl. rw (ji j) (ps j jl) in
       let pr : Places r = λ j jl. rw (job-reclaimed i a b j) (pi j jl) in
-      let dropped : Trip t l = trip-without t t b (notFrom b a) w not-root (λ j. refl) (dead-is t b gone) (λ m e. refl) (λ m j jl e. refl) (λ j bl jl. w .trip .pools b j bl jl) (λ x f o. not-from b a x f) in
+      let dropped : Trip t l =
+      trip-without t t b (notFrom b a) w not-root (λ j. refl) (dead-is t b (n .dead))
+      (λ m e. refl) (λ m j jl e. refl) (λ j bl jl. w .trip .pools b j bl jl) (λ x f o. not-from b a x f) in
       let told : Trip i l = trip-same t i ji (λ k. simp views) (λ m j. simp views) l dropped in
       let back : Trip r l = trip-reclaimed i a b l iz al pi (rw ni (w .facts .machine a al .reserved-job)) (rw ni (rw (ji (nodeAt t a .«reserved_job»)) (w .side .copies a al .reserved))) told in
       trip-unwaited r a b l (sized-reclaimed i iz a b) al pr back
@@ -117,11 +123,11 @@ module _ (t : Table) (b : ℕ) (z : Sized t) (l : List Message) (g : Trip t l) w
   unfolding reissue
   trip-reissue = all-turns 64 (omega arith) .trip
 
-pub trip-noticed : (t : Table) (a b : ℕ) → Whole t → a < 16 → nodeAt t b .alive ≢ 1 → Trips (noticed t a b)
+pub trip-noticed : (t : Table) → Whole t → (a b : ℕ) → Noticing t a b → Trips (noticed t a b)
 unfolding noticed
-trip-noticed t a b w al gone =
+trip-noticed t w a b n =
     let q = quieted t a b in
-    let g : Trip q (flight q) = rw (flight-quieted t a b) (trip-quieted t a b w al gone) in
+    let g : Trip q (flight q) = rw (flight-quieted t a b) (trip-quieted t w a b n) in
     byBool (eqb a 0)
     (λ e. rw (e, noticed) (rw (flight-reissue q b) (trip-reissue q b (sized-quieted t (w .sized) a b) (flight q) g)))
     (λ e. rw (e, noticed) g)

@@ -18,7 +18,7 @@ use Rattle.lists.specs.Scan.{without}
 use Rattle.lists.proofs.Count.{ind, count-append, every-append}
 use Rattle.invariant.proofs.Flight.{sends, takes, count-taken, every-taken}
 use Rattle.invariant.proofs.Frame.{Frame, frame-room}
-use Rattle.invariant.proofs.State.{Trip, Known, trip, isTrip, ackFrom, resultFrom, dead, has, held}
+use Rattle.invariant.proofs.State.{Trip, Known, isTrip, resultFrom, dead, has, held}
 use Rattle.invariant.proofs.TripLaws.{trip-other, ack-other, result-other, known-plain, Places}
 use Rattle.invariant.proofs.TripFrame.{trip-frame, trip-list, trip-dropped, trip-passed, trip-nothing, trip-step}
 

@@ -4,6 +4,7 @@ use Prim.Native.Nat.{ℕ, _<_}
 use mathlib.Core.Path.{_≡_, sym, ap, _∙_}
 use mathlib.Core.Logic.{_≢_}
 use mathlib.Core.Bool.{true, _&&_}
+use native.Mathlib.Omega.{arith}
 use borrow.Author.Tests.{le-leb, eqb-false, not-true}
 use lib.Dec.{eqb, leb, ltb}
 use Rattle.lists.specs.Scan.{filter}
@@ -19,7 +20,8 @@ use Rattle.table.proofs.Wipe.{machines-wipe, entries-wipe, bond-wipe, job-wipe,
 use Rattle.elements.specs.Elements.{toldOk}
 use Rattle.validity.specs.Validity.{sizesOk, bound}
 use Rattle.events.specs.Events.{died}
-use Rattle.preservation.proofs.Ok.{Ok, inFlightOk}
+use Rattle.events.proofs.Cases.{Dying}
+use Rattle.preservation.proofs.Ok.{Ok, Valid, inFlightOk, machines-most}
 use Rattle.preservation.proofs.Sizes.{sized-died}
 
 -- who was told of a machine may still have been told of it when it is dead
@@ -81,7 +83,16 @@ module _ (t : Table) (a : ℕ) where
 
 -- ---- check 9
 
-module _ (t : Table) (s : Sized t) (o : Ok t) (a : ℕ) (h : a < 16) (nz : a ≢ 0) where
+module _ (t : Table) (v : Valid t) (a : ℕ) (d : Dying t a) where
+  abbrev s : Sized t
+  s = v .sized
+
+  abbrev o : Ok t
+  o = v .ok
+
+  h : a < 16
+  h = omega (arith, d .machine, machines-most t (o .sizes))
+
   sizes-died : sizesOk (died t a) ≡ true
   sizes-died =
       let p = leb 2 (t .machines) in
@@ -92,7 +103,7 @@ module _ (t : Table) (s : Sized t) (o : Ok t) (a : ℕ) (h : a < 16) (nz : a ≢
   far : (x : Message) → notTo a x ≡ true → x .to ≢ a
   far x e = eqb-false (x .to) a (not-true _ e)
 
-  pub ok-died : Ok (died t a)
+  ok-died : Ok (died t a)
   ok-died = record {
     sizes = sizes-died;
     bond = λ j l. simp (entries-died t a, bond-died t a) (o .bond j l);
@@ -109,9 +120,12 @@ module _ (t : Table) (s : Sized t) (o : Ok t) (a : ℕ) (h : a < 16) (nz : a ≢
         (λ x c. let q = node-died-other t a (x .to) (far x (c .1)) in simp (machines-died t a, entries-died t a, bound-died t a, q) (c .0))
         (every-filter (λ x. inFlightOk t x ≡ true) (notTo a) (flight t) (o .messages)));
     padded = unfold died in padded-sift (withNode (wipe t a) a noMachine) (sized-node (wipe t a) a noMachine (sized-wipe t a s)) (notTo a);
-    root = rw (node-died-other t a 0 (λ e. nz (sym e))) (o .root);
+    root = rw (node-died-other t a 0 (λ e. d .other (sym e))) (o .root);
     told = λ k i l m. simp (machines-died t a, told-died t a) (
         byEq i a
         (λ e. rw e (simp (node-died-own t a s h) (told-now-dead (t .machines) (nodeAt t a .alive) k a (toldAt t k a) (o .told k a l h))))
         (λ e. let q = node-died-other t a i e in simp q (o .told k i l m)));
   }
+
+  pub valid-died : Valid (died t a)
+  valid-died = record { sized = sized-died t s a; ok = ok-died }

@@ -155,7 +155,8 @@ module _ (t : Table) (x : Message) (s : Sized t) (o : Ok t) (l : t .«in_flight�
       let v = release (nodeAt t b) in
       byBool (reserves (nodeAt t b) (x .job) (x .replica) (x .thief))
       (λ a. rw (a, onAuth)
-      (ok-send (withNode t b v) (sized-node t b v s) (ok-release t s o b to-16 al) (message 6 b (x .thief) (x .job) (x .replica) 0) (λ e. simp views l)
+      (ok-send (withNode t b v) (sized-node t b v s) (ok-release t s o b to-16 al)
+      (message 6 b (x .thief) (x .job) (x .replica) 0) (λ e. simp views l)
       (simp wide (rw (lt-ltb b M to-m, lt-ltb (x .thief) M th, copy-in M E B x g w)))))
       (λ a. rw (a, onAuth) o)
 

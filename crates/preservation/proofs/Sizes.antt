@@ -11,9 +11,9 @@ use Rattle.table.specs.declared.Job.{Job}
 use Rattle.table.specs.declared.Table.{Table}
 use Rattle.table.specs.declared.Message.{Message}
 use Rattle.table.specs.Views.{noMachine, jobAt, nodeAt, poolAt, toldAt, messageAt, withMessages, enter}
-use Rattle.table.specs.Messages.{RoomFor, pull, lowest, wipe, notTo, notFrom}
-use Rattle.table.specs.Parts.{opened, reserves, release, waiting, returned, message}
-use Rattle.table.proofs.Views.{Sized, views, sized-job, sized-node, sized-pool, sized-told, room-node}
+use Rattle.table.specs.Messages.{pull, lowest, wipe, notTo, notFrom}
+use Rattle.table.specs.Parts.{opened, reserves, release, returned}
+use Rattle.table.proofs.Views.{Sized, views, sized-job, sized-node, sized-pool, sized-told}
 use Rattle.table.proofs.Messages.{sized-send, sized-pull, sized-sift}
 use Rattle.table.proofs.Wipe.{sized-wipe}
 use Rattle.victim_handlers.specs.VictimHandlers.{noWork, grant, onFish, onAuth, onDenied, onObsolete}
@@ -21,8 +21,7 @@ use Rattle.thief_handlers.specs.ThiefHandlers.{onSchedule, onNoWork}
 use Rattle.root_handlers.specs.RootHandlers.{reply, onReq, onAck, onResult}
 use Rattle.handlers.specs.Handlers.{handle}
 use Rattle.events.specs.Events.{admitted, delivered, died}
-use Rattle.steal.specs.Steal.{stolen}
-use Rattle.work.specs.Work.{started, finished}
+use Rattle.work.specs.Work.{started}
 use Rattle.notice.specs.Notice.{informed, unwaited, reclaimed, quieted, lost, reissueOne, reissue, noticed}
 
 pub sized-enter : (t : Table) (m j r : ℕ) → Sized t → Sized (enter t m j r)
@@ -130,10 +129,6 @@ module _ (t : Table) (s : Sized t) where
   unfolding admitted
   sized-admitted a = sized-enter _ 0 a 1 (sized-job t a (opened 1) s)
 
-  pub sized-stolen : (a b : ℕ) → RoomFor t b → Sized (stolen t a b)
-  unfolding stolen message
-  sized-stolen a b l = sized-send _ (sized-node t a _ s) _ (room-node t a (waiting (nodeAt t a) (b + 1)) (unfold waiting in refl) b l)
-
   pub sized-delivered : (k : ℕ) → k < t .«in_flight» → Sized (delivered t k)
   unfolding delivered
   sized-delivered k h = let u = s .used in sized-handle (pull t k) (messageAt t k) (sized-pull t s k h) (omega (arith, used-pull t k))
@@ -141,10 +136,6 @@ module _ (t : Table) (s : Sized t) where
   pub sized-started : (a b : ℕ) → Sized (started t a b)
   unfolding started
   sized-started a b = sized-node _ a _ (sized-pool t a b 0 s)
-
-  pub sized-finished : (a : ℕ) → t .«in_flight» < 128 → Sized (finished t a)
-  unfolding finished
-  sized-finished a l = sized-send _ (sized-node t a _ s) _ (λ e. simp views l)
 
   pub sized-died : (a : ℕ) → Sized (died t a)
   unfolding died

@@ -18,11 +18,11 @@ use Rattle.table.specs.declared.Message.{Message}
 use Rattle.table.specs.Views.{nodeAt, flight, withJob, withNode, withPool, withMessages}
 use Rattle.table.specs.Messages.{push, pull, sift, send, RoomFor}
 use Rattle.table.proofs.Views.{Sized, views, job-same, job-other, node-same, node-other, pool-same, pool-other-node, pool-other-job, alive-node, length-flight}
-use Rattle.table.proofs.Messages.{Padded, flight-push, flight-pull, flight-sift, padded-push, padded-pull, padded-sift}
+use Rattle.table.proofs.Messages.{Padded, sized-send, flight-push, flight-pull, flight-sift, padded-push, padded-pull, padded-sift}
 use Rattle.elements.specs.Elements.{jobOk, nodeOk, cellOk}
 use Rattle.slots.specs.Slots.{messageOk}
 use Rattle.validity.specs.Validity.{sizesOk, bound}
-use Rattle.preservation.proofs.Ok.{Ok, inFlightOk}
+use Rattle.preservation.proofs.Ok.{Ok, Valid, inFlightOk}
 
 -- ---- what an update leaves
 
@@ -162,3 +162,6 @@ module _ (t : Table) (s : Sized t) (o : Ok t) where
       byBool (eqb (nodeAt t (x .to) .alive) 1)
       (λ e. rw (e, send) (ok-push x (l (eqb-true _ 1 e)) (rw e g)))
       (λ e. rw (e, send) o)
+
+  pub valid-send : (x : Message) → RoomFor t (x .to) → messageOk (t .machines) (t .entries) (bound t) x ≡ true → Valid (send t x)
+  valid-send x l g = record { sized = sized-send t s x l; ok = ok-send x l g }
