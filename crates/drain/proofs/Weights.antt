@@ -112,7 +112,7 @@ module _ (s : Table) (x : Message) (h : Hand s x) where
       either (not (eqb (nodeAt s b .«reserved_replica») 0)) 4 s _ _ none
       (either (leb 64 j) 4 s _ _ none
       (sent 4 s (withNode (withPool s b j 0) b v) (message REQ b 0 j (poolAt s b j) (x .from))
-      (frame-node s _ (frame-pool s s own b j 0) b v (h .message .to) (alive-reserve (nodeAt s b) j (poolAt s b j) (x .from)))
+      (frame-node s _ (frame-pool s s own b j 0) b v (alive-reserve (nodeAt s b) j (poolAt s b j) (x .from)))
       (λ e. h .room) (omega arith)))
 
   req : Sent 3 s (onReq s x)
@@ -124,7 +124,7 @@ module _ (s : Table) (x : Message) (h : Hand s x) where
       (answered (withJob s (x .job) (moved v (x .from) (x .thief))) AUTH (frame-job s s own (x .job) (moved v (x .from) (x .thief))) (omega arith)))
 
   released : Frame s (withNode s (x .to) (release (nodeAt s (x .to))))
-  released = frame-node s s own (x .to) (release (nodeAt s (x .to))) (h .message .to) (alive-release (nodeAt s (x .to)))
+  released = frame-node s s own (x .to) (release (nodeAt s (x .to))) (alive-release (nodeAt s (x .to)))
 
   auth : Sent 2 s (onAuth s x)
   unfolding onAuth message weightOf
@@ -138,7 +138,7 @@ module _ (s : Table) (x : Message) (h : Hand s x) where
   unfolding onDenied
   denied =
       either (reserves (nodeAt s (x .to)) (x .job) (x .replica) (x .thief)) 1 s _ s
-      (no-work (returned s (x .to)) (x .to) (x .thief) (frame-returned s (x .to) (h .sized) (h .message .to)))
+      (no-work (returned s (x .to)) (x .to) (x .thief) (frame-returned s (x .to) (h .sized)))
       (nothing 1)
 
   obsolete : Sent 1 s (onObsolete s x)
@@ -153,7 +153,7 @@ module _ (s : Table) (x : Message) (h : Hand s x) where
   schedule =
       let b = x .to in
       sent 1 s (withNode (enter s b (x .job) (x .replica)) b (waiting (nodeAt s b) 0)) (message ACK b 0 (x .job) (x .replica) 0)
-      (frame-node s _ (frame-enter s s own b (x .job) (x .replica)) b (waiting (nodeAt s b) 0) (h .message .to) (alive-waiting (nodeAt s b) 0))
+      (frame-node s _ (frame-enter s s own b (x .job) (x .replica)) b (waiting (nodeAt s b) 0) (alive-waiting (nodeAt s b) 0))
       (λ e. h .room) (omega arith)
 
   ack : Sent 0 s (onAck s x)
@@ -165,7 +165,7 @@ module _ (s : Table) (x : Message) (h : Hand s x) where
 
   nowork : Sent 0 s (onNoWork s x)
   unfolding onNoWork
-  nowork = quiet 0 s _ (frame-node s s own (x .to) (waiting (nodeAt s (x .to)) 0) (h .message .to) (alive-waiting (nodeAt s (x .to)) 0))
+  nowork = quiet 0 s _ (frame-node s s own (x .to) (waiting (nodeAt s (x .to)) 0) (alive-waiting (nodeAt s (x .to)) 0))
 
   result : Sent 0 s (onResult s x)
   unfolding onResult

@@ -12,8 +12,8 @@ use Rattle.events.specs.Events.{admitted}
 use Rattle.steal.specs.Steal.{stolen}
 use Rattle.steal.proofs.Cases.{Stealing}
 use Rattle.work.specs.Work.{started, finished}
-use Rattle.work.proofs.Cases.{Starting, Finishing}
-use Rattle.invariant.proofs.State.{Conserved, Whole, machine-16, isAnswer}
+use Rattle.work.proofs.Cases.{Finishing}
+use Rattle.invariant.proofs.State.{Conserved, Whole, isAnswer}
 use Rattle.invariant.proofs.Frame.{Frame, frame-refl, frame-job, frame-pool, frame-node, frame-enter, part-kept, node-enter}
 use Rattle.invariant.proofs.About.{plain, reserves-running, reserves-waiting, alive-running, alive-waiting}
 use Rattle.invariant.proofs.ConservedFrame.{SameReserved, conserved-plain, conserved-quiet}
@@ -29,37 +29,34 @@ module _ (t : Table) (w : Whole t) where
       conserved-quiet t (enter u 0 a 1) (frame-enter t u (frame-job t t here a (opened 1)) 0 a 1) (λ m j q th. simp (node-enter, views)) (w .conserved)
 
   -- machine a's new record v has the reserved copy of the old one
-  same-node : (a : ℕ) (v : Machine) → a < 16 → ((j q th : ℕ) → reserves v j q th ≡ reserves (nodeAt t a) j q th) → SameReserved t (withNode t a v)
-  same-node a v l e m j q th = part-kept (λ n. reserves n j q th) t t a v (w .sized) l (λ k. refl) (e j q th) m
+  same-node : (a : ℕ) (v : Machine) → ((j q th : ℕ) → reserves v j q th ≡ reserves (nodeAt t a) j q th) → SameReserved t (withNode t a v)
+  same-node a v e m j q th = part-kept (λ n. reserves n j q th) t t a v (λ k. refl) (e j q th) m
 
   pub conserved-stolen : (a b : ℕ) → Stealing t a b → Conserved (stolen t a b) (flight (stolen t a b))
   unfolding stolen message
   conserved-stolen a b d =
-      let l = machine-16 t w a (d .machine) in
       let n = nodeAt t a in
       let v = waiting n (b + 1) in
-      conserved-plain t (withNode t a v) (message FISH a b 0 0 0) (frame-node t t here a v l (alive-waiting n (b + 1)))
-      (same-node a v l (λ j q th. reserves-waiting n (b + 1) j q th)) (d .room)
+      conserved-plain t (withNode t a v) (message FISH a b 0 0 0) (frame-node t t here a v (alive-waiting n (b + 1)))
+      (same-node a v (λ j q th. reserves-waiting n (b + 1) j q th)) (d .room)
       (w .facts .root) (unfold plain isAnswer message in refl) (w .conserved)
 
-  pub conserved-started : (a b : ℕ) → Starting t a b → Conserved (started t a b) (flight (started t a b))
+  pub conserved-started : (a b : ℕ) → Conserved (started t a b) (flight (started t a b))
   unfolding started
-  conserved-started a b d =
-      let l = machine-16 t w a (d .machine) in
+  conserved-started a b =
       let n = nodeAt t a in
       let v = running n b (poolAt t a b) in
       let p = withPool t a b 0 in
       let f : Frame t p = frame-pool t t here a b 0 in
-      conserved-quiet t (withNode p a v) (frame-node t p f a v l (alive-running n b (poolAt t a b)))
-      (λ m j q th. part-kept (λ n. reserves n j q th) t p a v (f .sized) l (λ k. rw (node-pool t a b 0 k)) (reserves-running n b (poolAt t a b) j q th) m) (w .conserved)
+      conserved-quiet t (withNode p a v) (frame-node t p f a v (alive-running n b (poolAt t a b)))
+      (λ m j q th. part-kept (λ n. reserves n j q th) t p a v (λ k. rw (node-pool t a b 0 k)) (reserves-running n b (poolAt t a b) j q th) m) (w .conserved)
 
   pub conserved-finished : (a : ℕ) → Finishing t a → Conserved (finished t a) (flight (finished t a))
   unfolding finished
   conserved-finished a d =
-      let l = machine-16 t w a (d .machine) in
       let n = nodeAt t a in
       let v = running n 0 0 in
       let y = result a (n .«running_job») (n .«running_replica») (priceBits (bondAt t (n .«running_job»))) in
-      conserved-plain t (withNode t a v) y (frame-node t t here a v l (alive-running n 0 0))
-      (same-node a v l (λ j q th. reserves-running n 0 0 j q th)) (λ e. d .room)
+      conserved-plain t (withNode t a v) y (frame-node t t here a v (alive-running n 0 0))
+      (same-node a v (λ j q th. reserves-running n 0 0 j q th)) (λ e. d .room)
       (w .facts .root) (unfold plain isAnswer result in refl) (w .conserved)

@@ -46,7 +46,7 @@ module _ (s : Table) (x : Message) (h : Hand s x) (fish : x .kind ≡ FISH) (c :
     y = message REQ (x .to) 0 j₀ (poolAt s (x .to) j₀) (x .from)
 
     frame-u : Frame s u
-    frame-u = frame-node s (withPool s (x .to) j₀ 0) (frame-pool s s (frame-refl s (h .sized)) (x .to) j₀ 0) (x .to) _ (h .message .to) (alive-reserve _ _ _ _)
+    frame-u = frame-node s (withPool s (x .to) j₀ 0) (frame-pool s s (frame-refl s (h .sized)) (x .to) j₀ 0) (x .to) _ (alive-reserve _ _ _ _)
 
     own : nodeAt u (x .to) ≡ v
     own = node-same (withPool s (x .to) j₀ 0) (sized-pool s (x .to) j₀ 0 (h .sized)) (x .to) _ (h .message .to)

@@ -40,8 +40,8 @@ whole-kept t e w =
           whole _ (valid-delivered t v k l) (conserved-delivered t k w l) (trip-delivered t k w l)
           (side-delivered t k w l) (prices-delivered t k w l);
       start = λ c d.
-          whole _ (valid-started t v a b d) (conserved-started t w a b d) (trip-started t w a b d)
-          (side-started t w a b d) (prices-started t w a b d);
+          whole _ (valid-started t v a b d) (conserved-started t w a b) (trip-started t w a b d)
+          (side-started t w a b d) (prices-started t w a b);
       done = λ c d.
           whole _ (valid-finished t v a d) (conserved-finished t w a d) (trip-finished t w a d) (side-finished t w a d) (prices-finished t w a d);
       die = λ c d.

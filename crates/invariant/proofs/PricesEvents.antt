@@ -22,10 +22,10 @@ use Rattle.events.proofs.Cases.{Admitting}
 use Rattle.steal.specs.Steal.{stolen}
 use Rattle.steal.proofs.Cases.{Stealing}
 use Rattle.work.specs.Work.{started, finished}
-use Rattle.work.proofs.Cases.{Starting, Finishing}
+use Rattle.work.proofs.Cases.{Finishing}
 use Rattle.notice.specs.Notice.{lost, quieted, noticed}
 use Rattle.preservation.proofs.Sizes.{sized-quieted}
-use Rattle.invariant.proofs.State.{Prices, RightPrice, Whole, machine-16, entry-64}
+use Rattle.invariant.proofs.State.{Prices, RightPrice, Whole, entry-64}
 use Rattle.invariant.proofs.Frame.{Frame, frame-refl, frame-node, frame-pool, frame-room, flight-enter, job-enter}
 use Rattle.invariant.proofs.About.{alive-running, alive-waiting}
 use Rattle.invariant.proofs.Died.{job-died, flight-died}
@@ -65,30 +65,28 @@ module _ (t : Table) (w : Whole t) where
       record { sent = rw (flight-enter u 0 a 1) (q .sent); shown = λ j h. rw (job-enter u 0 a 1 j) (q .shown j h) }
 
   -- machine a's record is new, and y is sent
-  sent-node : (a : ℕ) (v : Machine) (y : Message) → a < 16 → RoomFor t (y .to) → v .alive ≡ nodeAt t a .alive → RightPrice t y
+  sent-node : (a : ℕ) (v : Machine) (y : Message) → RoomFor t (y .to) → v .alive ≡ nodeAt t a .alive → RightPrice t y
       → PricesBy t (send (withNode t a v) y) (flight (send (withNode t a v) y))
-  sent-node a v y l room alive e =
-      let f : Frame t (withNode t a v) = frame-node t t here a v l alive in
+  sent-node a v y room alive e =
+      let f : Frame t (withNode t a v) = frame-node t t here a v alive in
       by-send t (withNode t a v) y (f .sized) (frame-room t _ f (y .to) room) e (by-frame t _ f (λ j. simp views) p)
 
   right-stolen : (a b : ℕ) → Stealing t a b → PricesBy t (stolen t a b) (flight (stolen t a b))
   unfolding stolen message
-  right-stolen a b d =
-      sent-node a _ _ (machine-16 t w a (d .machine)) (d .room) (alive-waiting (nodeAt t a) (b + 1)) (λ (e : _≡_ {A = ℕ} 1 9). absurd (omega arith))
+  right-stolen a b d = sent-node a _ _ (d .room) (alive-waiting (nodeAt t a) (b + 1)) (λ (e : _≡_ {A = ℕ} 1 9). absurd (omega arith))
 
-  right-started : (a b : ℕ) → a < 16 → PricesBy t (started t a b) (flight (started t a b))
+  right-started : (a b : ℕ) → PricesBy t (started t a b) (flight (started t a b))
   unfolding started
-  right-started a b l =
+  right-started a b =
       let u = withPool t a b 0 in
       let v = running (nodeAt t a) b (poolAt t a b) in
-      by-frame t (withNode u a v) (frame-node t u (frame-pool t t here a b 0) a v l (alive-running (nodeAt t a) b (poolAt t a b))) (λ j. simp views) p
+      by-frame t (withNode u a v) (frame-node t u (frame-pool t t here a b 0) a v (alive-running (nodeAt t a) b (poolAt t a b))) (λ j. simp views) p
 
   right-finished : (a : ℕ) → Finishing t a → PricesBy t (finished t a) (flight (finished t a))
   unfolding finished
   right-finished a d =
       let n = nodeAt t a in
-      sent-node a (running n 0 0) _ (machine-16 t w a (d .machine)) (λ e. d .room) (alive-running n 0 0)
-      (right-result t a (n .«running_job») (n .«running_replica»))
+      sent-node a (running n 0 0) _ (λ e. d .room) (alive-running n 0 0) (right-result t a (n .«running_job») (n .«running_replica»))
 
   pub prices-admitted : (a : ℕ) → Admitting t a → Prices (admitted t a) (flight (admitted t a))
   prices-admitted a d =
@@ -97,9 +95,8 @@ module _ (t : Table) (w : Whole t) where
   pub prices-stolen : (a b : ℕ) → Stealing t a b → Prices (stolen t a b) (flight (stolen t a b))
   prices-stolen a b d = prices-by t (stolen t a b) _ (λ j. fixed-stolen (λ u. bondAt u j) (fixed-bond j) t a b) (right-stolen a b d)
 
-  pub prices-started : (a b : ℕ) → Starting t a b → Prices (started t a b) (flight (started t a b))
-  prices-started a b d =
-      prices-by t (started t a b) _ (λ j. fixed-started (λ u. bondAt u j) (fixed-bond j) t a b) (right-started a b (machine-16 t w a (d .machine)))
+  pub prices-started : (a b : ℕ) → Prices (started t a b) (flight (started t a b))
+  prices-started a b = prices-by t (started t a b) _ (λ j. fixed-started (λ u. bondAt u j) (fixed-bond j) t a b) (right-started a b)
 
   pub prices-finished : (a : ℕ) → Finishing t a → Prices (finished t a) (flight (finished t a))
   prices-finished a d = prices-by t (finished t a) _ (λ j. fixed-finished (λ u. bondAt u j) (fixed-bond j) t a) (right-finished a d)

@@ -88,7 +88,7 @@ module _ (s : Table) (x : Message) (h : Hand s x) (p : PricesBy s s (flight s)) 
   sent-node : (u : Table) (v : Machine) (k o j r th : ℕ) → Frame s u → ((i : ℕ) → jobAt u i ≡ jobAt s i) → v .alive ≡ nodeAt s (x .to) .alive → eqb k RESULT ≡ false
       → Right (send (withNode u (x .to) v) (message k (x .to) o j r th))
   sent-node u v k o j r th f e alive n =
-      let g : Frame s (withNode u (x .to) v) = frame-node s u f (x .to) v (h .message .to) alive in
+      let g : Frame s (withNode u (x .to) v) = frame-node s u f (x .to) v alive in
       sent (withNode u (x .to) v) k (x .to) o j r th g (by-frame s _ g (λ i. simp views (e i)) p) n
 
   refuses : (o : ℕ) → Right (noWork s (x .to) o)
@@ -144,7 +144,7 @@ module _ (s : Table) (x : Message) (h : Hand s x) (p : PricesBy s s (flight s)) 
   right-denied : Right (onDenied s x)
   unfolding onDenied noWork
   right-denied =
-      let f : Frame s (returned s (x .to)) = frame-returned s (x .to) (h .sized) (h .message .to) in
+      let f : Frame s (returned s (x .to)) = frame-returned s (x .to) (h .sized) in
       byBool (reserves (nodeAt s (x .to)) (x .job) (x .replica) (x .thief))
       (λ a. rw (a, onDenied) (sent (returned s (x .to)) NOWORK (x .to) (x .thief) 0 0 0 f (by-frame s _ f (unfold returned in λ i. simp (views, job-enter)) p) refl))
       (λ a. rw (a, onDenied) p)
@@ -157,7 +157,7 @@ module _ (s : Table) (x : Message) (h : Hand s x) (p : PricesBy s s (flight s)) 
 
   right-nowork : Right (onNoWork s x)
   unfolding onNoWork
-  right-nowork = by-frame s _ (frame-node s s here (x .to) (waiting (nodeAt s (x .to)) 0) (h .message .to) (alive-waiting (nodeAt s (x .to)) 0)) (λ i. simp views) p
+  right-nowork = by-frame s _ (frame-node s s here (x .to) (waiting (nodeAt s (x .to)) 0) (alive-waiting (nodeAt s (x .to)) 0)) (λ i. simp views) p
 
   right-ack : Right (onAck s x)
   unfolding onAck placed

@@ -47,7 +47,7 @@ module _ (t : Table) (w : Whole t) where
       let al = machine-16 t w a (d .machine) in
       let n = nodeAt t a in
       let v = waiting n (b + 1) in
-      sent (withNode t a v) a v (frame-node t t here a v al (alive-waiting n (b + 1))) (λ j. simp views)
+      sent (withNode t a v) a v (frame-node t t here a v (alive-waiting n (b + 1))) (λ j. simp views)
       (node-same t (w .sized) a v al) (λ m e. node-other t a m v e) (copies-waiting t a n (b + 1) (w .side .copies a al))
       (message FISH a b 0 0 0) (d .room)
       (sender-message t FISH a b 0 0 0 (λ e. absurd (true≢false (sym e ∙ unfold isAnswer in refl)))
@@ -62,7 +62,7 @@ module _ (t : Table) (w : Whole t) where
       let v = running n b r in
       let p = withPool t a b 0 in
       let f : Frame t p = frame-pool t t here a b 0 in
-      let g : Frame t (withNode p a v) = frame-node t p f a v al (alive-running n b r) in
+      let g : Frame t (withNode p a v) = frame-node t p f a v (alive-running n b r) in
       rw (g .flight) (stays (withNode p a v) a v g (λ j. simp views) (node-same p (f .sized) a v al) (λ m e. node-other p a m v e ∙ node-pool t a b 0 m)
       (copies-running t a n b r (w .trip .pools a b al (entry-64 t w b (d .entry))) (w .side .copies a al)) (flight t) (w .side .sender))
 
@@ -77,7 +77,7 @@ module _ (t : Table) (w : Whole t) where
       let n = nodeAt t a in
       let bits = priceBits (bondAt t (n .«running_job»)) in
       let v = running n 0 0 in
-      sent (withNode t a v) a v (frame-node t t here a v al (alive-running n 0 0)) (λ j. simp views)
+      sent (withNode t a v) a v (frame-node t t here a v (alive-running n 0 0)) (λ j. simp views)
       (node-same t (w .sized) a v al) (λ m e. node-other t a m v e) (copies-running t a n 0 0 (omega arith) (w .side .copies a al))
       (result a (n .«running_job») (n .«running_replica») bits) (λ e. d .room)
       (sender-result a (n .«running_job») (n .«running_replica») bits al (d .alive))

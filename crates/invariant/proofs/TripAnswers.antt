@@ -59,7 +59,7 @@ module _ (s : Table) (x : Message) (h : Hand s x) (c : Conserved s (x ∷ flight
   Matches v = reserves (nodeAt s (x .to)) (x .job) (x .replica) (x .thief) ≡ v
 
   released : Frame s (withNode s (x .to) (release (nodeAt s (x .to))))
-  released = frame-node s s (frame-refl s (h .sized)) (x .to) (release (nodeAt s (x .to))) (h .message .to) (alive-release (nodeAt s (x .to)))
+  released = frame-node s s (frame-refl s (h .sized)) (x .to) (release (nodeAt s (x .to))) (alive-release (nodeAt s (x .to)))
 
   -- ---- AUTH: the copy is on its way
   auths : x .kind ≡ AUTH → Matches true → Trips (send (withNode s (x .to) (release (nodeAt s (x .to)))) (message SCHEDULE (x .to) (x .thief) (x .job) (x .replica) 0))
@@ -108,7 +108,7 @@ module _ (s : Table) (x : Message) (h : Hand s x) (c : Conserved s (x ∷ flight
       let b = x .to in
       let u = returned s b in
       let y = message NOWORK b (x .thief) 0 0 0 in
-      let f : Frame s u = frame-returned s b (h .sized) (h .message .to) in
+      let f : Frame s u = frame-returned s b (h .sized) in
       let hj : nodeAt s b .«reserved_job» < 64 = h .facts .machine b (h .message .to) .reserved-job in
       let hr = cap b (h .message .to) in
       let t : Trip u (y ∷ flight s) =

@@ -49,7 +49,7 @@ module _ (t : Table) (a : ℕ) (n : Machine) (y : Message) (c : ℕ) (w : Whole 
   trip-sent : Trips (send (withNode t a n) y)
   trip-sent =
       let u = withNode t a n in
-      let f : Frame t u = frame-node t t (frame-refl t (w .sized)) a n al na in
+      let f : Frame t u = frame-node t t (frame-refl t (w .sized)) a n na in
       trip-sends t u y f room (w .facts .root) home
       (trip-swap t u noMessage y (flight t) 0 c refl ey (unfold isTrip in refl) tc refl ac (places t (w .facts)) (λ j. simp views) (f .alive) (λ m j ml jl. rw pool-node (w .trip .pools m j ml jl)) ky
       (λ j p jl pl o. byEq p a
@@ -105,7 +105,7 @@ trip-started t w a b d =
     let v = running n b r₀ in
     let q = withPool t a b 0 in
     let u = withNode q a v in
-    let f : Frame t u = frame-node t q (frame-pool t t (frame-refl t (w .sized)) a b 0) a v al (alive-running n b r₀) in
+    let f : Frame t u = frame-node t q (frame-pool t t (frame-refl t (w .sized)) a b 0) a v (alive-running n b r₀) in
     simp (flight-node, flight-pool)
     (trip-table t u (flight t) (places t (w .facts)) (λ j. simp views) (f .alive) (λ m j ml jl. rw pool-node (pools-emptied t a b (w .sized) al bl (w .trip .pools) m j ml jl))
     (λ j p jl pl o.

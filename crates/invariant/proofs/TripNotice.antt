@@ -40,7 +40,7 @@ unfolding reclaimed
 trip-reclaimed t a b l z al ps hj hr i =
     byBool (not (eqb (nodeAt t a .«reserved_replica») 0) && eqb (nodeAt t a .«reserved_thief») b)
     (λ e. rw (e, reclaimed)
-    (trip-table t (returned t a) l ps (λ j. unfold returned in simp (views, entered)) (frame-returned t a z al .alive) (pools-returned t a z al hj hr (i .pools))
+    (trip-table t (returned t a) l ps (λ j. unfold returned in simp (views, entered)) (frame-returned t a z .alive) (pools-returned t a z al hj hr (i .pools))
     (λ j p jl pl o. has-returned t a z al hj hr (i .pools) j p jl) i))
     (λ e. rw (e, reclaimed) i)
 
@@ -49,7 +49,7 @@ trip-unwaited : (t : Table) (a b : ℕ) (l : List Message) → Sized t → a < 1
 unfolding unwaited
 trip-unwaited t a b l z al ps i =
     let n = nodeAt t a in
-    let f : Frame t (withNode t a (waiting n 0)) = frame-node t t (frame-refl t z) a (waiting n 0) al (alive-waiting n 0) in
+    let f : Frame t (withNode t a (waiting n 0)) = frame-node t t (frame-refl t z) a (waiting n 0) (alive-waiting n 0) in
     byBool (eqb (n .waits) (b + 1))
     (λ e. rw (e, unwaited)
     (trip-table t (withNode t a (waiting n 0)) l ps (λ j. simp views) (f .alive) (λ m j ml jl. rw pool-node (i .pools m j ml jl))

@@ -56,7 +56,7 @@ module _ (s : Table) (x : Message) (h : Hand s x) (g : Trip s (x ∷ flight s)) 
       let y = message REQ b 0 i r₀ (x .from) in
       let w = h .message in
       let va : v .alive ≡ n .alive = alive-reserve n i r₀ (x .from) in
-      let f : Frame s u = frame-node s q (frame-pool s s (frame-refl s (h .sized)) b i 0) b v (w .to) va in
+      let f : Frame s u = frame-node s q (frame-pool s s (frame-refl s (h .sized)) b i 0) b v va in
       let t : Trip u (y ∷ flight s) =
       trip-swap s u x y (flight s) FISH REQ k1 (unfold message in refl) (unfold isTrip in refl) (unfold isTrip in refl) refl refl (places s (h .facts)) (λ j. simp views) (f .alive)
       (λ m j a c. rw pool-node (pools-emptied s b i (h .sized) (w .to) il (g .pools) m j a c))
@@ -97,7 +97,7 @@ module _ (s : Table) (x : Message) (h : Hand s x) (g : Trip s (x ∷ flight s)) 
       let w = h .message in
       let k = g .known .0 in
       let qz : Sized q = sized-enter s b (x .job) (x .replica) (h .sized) in
-      let f : Frame s u = frame-node s q (frame-enter s s (frame-refl s (h .sized)) b (x .job) (x .replica)) b (waiting n 0) (w .to) (alive-waiting n 0) in
+      let f : Frame s u = frame-node s q (frame-enter s s (frame-refl s (h .sized)) b (x .job) (x .replica)) b (waiting n 0) (alive-waiting n 0) in
       let tx : (j r : ℕ) → trip j r x ≡ eqb (x .job) j && eqb (x .replica) r = λ j r. unfold trip isTrip in rw k6 in
       let ty : (j r : ℕ) → trip j r y ≡ eqb (x .job) j && eqb (x .replica) r = λ j r. unfold trip isTrip message in refl in
       let t : Trip u (y ∷ flight s) =
@@ -124,7 +124,7 @@ module _ (s : Table) (x : Message) (h : Hand s x) (g : Trip s (x ∷ flight s)) 
       let b = x .to in
       let n = nodeAt s b in
       let u = withNode s b (waiting n 0) in
-      let f : Frame s u = frame-node s s (frame-refl s (h .sized)) b (waiting n 0) (h .message .to) (alive-waiting n 0) in
+      let f : Frame s u = frame-node s s (frame-refl s (h .sized)) b (waiting n 0) (alive-waiting n 0) in
       simp flight-node
       (trip-table s u (flight s) (places s (h .facts)) (λ j. simp views) (f .alive) (λ m j a c. rw pool-node (g .pools m j a c))
       (λ j p a c o. omega (arith, has-waiting s b p j (jobAt s j .replica) 0 n (h .sized) (h .message .to) refl))
