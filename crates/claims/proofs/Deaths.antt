@@ -93,7 +93,8 @@ module _ (t : Table) (w : Whole t) (e : List ℕ) where
         start = λ c d. quiet (started t a b) 4 c refl (deaths-same t _ (fixed-started (λ s. s .machines) fixed-machines t a b) (alive-started t a b));
         done = λ c d. quiet (finished t a) 5 c refl (deaths-same t _ (fixed-finished (λ s. s .machines) fixed-machines t a) (alive-finished t a));
         die = λ c d. rw (eq-eqb (codeOf e) 6 c) (deaths-died t a w d);
-        notice = λ c d. quiet (noticed t a b) 7 c refl (deaths-same t _ (fixed-noticed (λ s. s .machines) fixed-machines t a b) (λ m. alive-noticed t (w .sized) a b m (machine-16 t w a (d .machine))));
+        notice = λ c d. quiet (noticed t a b) 7 c refl (deaths-same t _ (fixed-noticed (λ s. s .machines) fixed-machines t a b)
+            (λ m. alive-noticed t (w .sized) a b m (machine-16 t w a (d .machine))));
       })
 
 pub deaths-run : (t : Table) (es : List (List ℕ)) → Whole t → deaths (runOf t es) ≡ deaths t + countOf kills t es

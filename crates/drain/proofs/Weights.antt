@@ -78,8 +78,7 @@ sent w s u y f room h =
     byBool (eqb (nodeAt u (y .to) .alive) 1)
     (λ e. rw (e, send) (record {
       weighs = rw (fl (eqb-true _ 1 e)) (omega (arith, weight-append (flight s) y));
-      told = simp views (f .told);
-      alive = simp views (f .alive);
+      told = simp views (f .told); alive = simp views (f .alive);
     }))
     (λ e. rw (e, send) (quiet w s u f))
 

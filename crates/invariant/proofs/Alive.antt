@@ -28,7 +28,8 @@ module _ (t : Table) where
   alive-admitted a m = simp (views, node-enter)
 
   -- machine a's record is new, and a message is sent
-  alive-sent : (a : ℕ) (v : Machine) (x : Message) → v .alive ≡ nodeAt t a .alive → (m : ℕ) → nodeAt (send (withNode t a v) x) m .alive ≡ nodeAt t m .alive
+  alive-sent : (a : ℕ) (v : Machine) (x : Message) → v .alive ≡ nodeAt t a .alive
+      → (m : ℕ) → nodeAt (send (withNode t a v) x) m .alive ≡ nodeAt t m .alive
   alive-sent a v x e m =
       let u = withNode t a v in
       ap (λ (n : Machine). n .alive) (view-send (λ s. nodeAt s m) u x (λ n k. node-messages u n k m)) ∙ alive-node t a v e m
@@ -39,7 +40,9 @@ module _ (t : Table) where
 
   pub alive-started : (a b m : ℕ) → nodeAt (started t a b) m .alive ≡ nodeAt t m .alive
   unfolding started
-  alive-started a b m = simp (alive-node (withPool t a b 0) a (running (nodeAt t a) b (poolAt t a b)) (simp views (alive-running (nodeAt t a) b (poolAt t a b))) m, views)
+  alive-started a b m =
+      let q = alive-running (nodeAt t a) b (poolAt t a b) in
+      simp (alive-node (withPool t a b 0) a (running (nodeAt t a) b (poolAt t a b)) (simp views q) m, views)
 
   pub alive-finished : (a m : ℕ) → nodeAt (finished t a) m .alive ≡ nodeAt t m .alive
   unfolding finished

@@ -1,7 +1,7 @@
 -- Clause C through Admit, Steal, Start and Done: no reserved copy changes, and what is sent is about none.
 -- Assumes nothing.
 use mathlib.Core.Path.{_≡_, refl}
-use Prim.Native.Nat.{ℕ, _+_, _<_}
+use Prim.Native.Nat.{ℕ, _+_}
 use Rattle.pricer.specs.Price.{priceBits}
 use Rattle.table.specs.declared.Machine.{Machine}
 use Rattle.table.specs.declared.Table.{Table}
@@ -49,7 +49,8 @@ module _ (t : Table) (w : Whole t) where
       let p = withPool t a b 0 in
       let f : Frame t p = frame-pool t t here a b 0 in
       conserved-quiet t (withNode p a v) (frame-node t p f a v (alive-running n b (poolAt t a b)))
-      (λ m j q th. part-kept (λ n. reserves n j q th) t p a v (λ k. rw (node-pool t a b 0 k)) (reserves-running n b (poolAt t a b) j q th) m) (w .conserved)
+      (λ m j q th. part-kept (λ n. reserves n j q th) t p a v (λ k. rw (node-pool t a b 0 k))
+      (reserves-running n b (poolAt t a b) j q th) m) (w .conserved)
 
   pub conserved-finished : (a : ℕ) → Finishing t a → Conserved (finished t a) (flight (finished t a))
   unfolding finished

@@ -91,20 +91,14 @@ about-stays t l a b m th j q nz nm h =
 
 -- ---- the event
 
-module _ (t : Table) (w : Whole t) (a b : ℕ) (n : Noticing t a b) where
-  al : a < 16
-  al = machine-16 t w a (n .machine)
-
-  bl : b < 16
-  bl = machine-16 t w b (n .named)
-
+module _ (t : Table) (a b : ℕ) (w : Whole t) (al : a < 16) (bl : b < 16) (gone : nodeAt t b .alive ≢ 1) where
   not-root : b ≢ 0
-  not-root e = n .dead (ap (λ (k : ℕ). nodeAt t k .alive) e ∙ w .facts .root)
+  not-root e = gone (ap (λ (k : ℕ). nodeAt t k .alive) e ∙ w .facts .root)
 
   conserved-quieted : Conserved (quieted t a b) (filter (notFrom b a) (flight t))
   conserved-quieted m th j q ml tl alive told =
       let old : nodeAt t m .alive ≡ 1 → toldAt t m th ≡ 0 → count (about m th j q) (filter (notFrom b a) (flight t)) ≡ ind (reserves (nodeAt t m) j q th) = λ v o.
-      about-stays t (flight t) a b m th j q not-root (λ d. n .dead (rw (← d) v)) (w .side .sender) ∙ w .conserved m th j q ml tl v o in
+      about-stays t (flight t) a b m th j q not-root (λ d. gone (rw (← d) v)) (w .side .sender) ∙ w .conserved m th j q ml tl v o in
       byEq m a
       (λ e.
       let own : nodeAt (quieted t a b) m ≡ quietedNode (nodeAt t m) b = rw e (node-quieted t a b (w .sized) al) in
@@ -118,10 +112,11 @@ module _ (t : Table) (w : Whole t) (a b : ℕ) (n : Noticing t a b) where
       old (sym (ap (λ (n : Machine). n .alive) same) ∙ alive) (sym (told-quieted-others t a b m th bl tl e) ∙ told)
       ∙ ap (λ (n : Machine). ind (reserves n j q th)) (sym same))
 
-  pub conserved-noticed : Conserved (noticed t a b) (flight (noticed t a b))
-  unfolding noticed
-  conserved-noticed =
-      let s = quieted t a b in
-      byBool (eqb a 0)
-      (λ e. rw (e, noticed) (rw (flight-reissue s b, flight-quieted t a b) (simp (node-reissue, told-reissue) conserved-quieted)))
-      (λ e. rw (e, noticed) (rw (flight-quieted t a b) conserved-quieted))
+pub conserved-noticed : (t : Table) → Whole t → (a b : ℕ) → Noticing t a b → Conserved (noticed t a b) (flight (noticed t a b))
+unfolding noticed
+conserved-noticed t w a b n =
+    let s = quieted t a b in
+    let c = conserved-quieted t a b w (machine-16 t w a (n .machine)) (machine-16 t w b (n .named)) (n .dead) in
+    byBool (eqb a 0)
+    (λ e. rw (e, noticed) (rw (flight-reissue s b, flight-quieted t a b) (simp (node-reissue, told-reissue) c)))
+    (λ e. rw (e, noticed) (rw (flight-quieted t a b) c))

@@ -89,5 +89,6 @@ module _ (s : Table) (x : Message) (h : Hand s x) (c : Conserved s (x ∷ flight
       let y = message ACK b 0 (x .job) (x .replica) 0 in
       let f : Frame s p = frame-enter s s here b (x .job) (x .replica) in
       conserved-plain s (withNode p b v) y (frame-node s p f b v (alive-waiting (nodeAt s b) 0))
-      (λ m j q th. part-kept (λ n. reserves n j q th) s p b v (λ k. rw (node-enter s b (x .job) (x .replica) k)) (reserves-waiting (nodeAt s b) 0 j q th) m)
+      (λ m j q th. part-kept (λ n. reserves n j q th) s p b v (λ k. rw (node-enter s b (x .job) (x .replica) k))
+      (reserves-waiting (nodeAt s b) 0 j q th) m)
       (λ e. h .room) (h .facts .root) (unfold plain isAnswer message in refl) (forgets (unfold plain isAnswer in rw e))

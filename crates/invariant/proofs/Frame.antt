@@ -36,10 +36,7 @@ module _ (s u : Table) (f : Frame s u) where
 
   pub frame-node : (b : ℕ) (v : Machine) → v .alive ≡ nodeAt s b .alive → Frame s (withNode u b v)
   frame-node b v e = record {
-    sized = sized-node u b v (f .sized);
-    used = simp views (f .used);
-    flight = simp views (f .flight);
-    told = simp views (f .told);
+    sized = sized-node u b v (f .sized); used = simp views (f .used); flight = simp views (f .flight); told = simp views (f .told);
     alive = part-kept (λ n. n .alive) s u b v (f .alive) e;
   }
 

@@ -47,13 +47,7 @@ pub reissued-grows : (v : Job) (b : ℕ) → v .replica ≤ reissuedJob v b .rep
 unfolding reissuedJob opened
 reissued-grows v b = byBool (lost v b) (λ e. rw e (omega arith)) (λ e. rw e (omega arith))
 
-module _ (t : Table) (w : Whole t) (a b : ℕ) (n : Noticing t a b) where
-  al : a < 16
-  al = machine-16 t w a (n .machine)
-
-  bl : b < 16
-  bl = machine-16 t w b (n .named)
-
+module _ (t : Table) (a b : ℕ) (w : Whole t) (al : a < 16) (bl : b < 16) (gone : nodeAt t b .alive ≢ 1) where
   abbrev k : List Message
   k = filter (notFrom b a) (flight t)
 
@@ -119,7 +113,7 @@ module _ (t : Table) (w : Whole t) (a b : ℕ) (n : Noticing t a b) where
     placed-opened : (r : ℕ) → Placed u (opened r)
     unfolding opened
     placed-opened r = record {
-      holder = λ e. told-same 0 0 (omega arith) (λ p q. n .dead (ap (λ (i : ℕ). nodeAt t i .alive) (sym q) ∙ w .facts .root))
+      holder = λ e. told-same 0 0 (omega arith) (λ p q. gone (ap (λ (i : ℕ). nodeAt t i .alive) (sym q) ∙ w .facts .root))
           ∙ living-untold t (w .facts) 0 0 (omega arith) (omega arith) (w .facts .root);
       thief = λ e (f : _≡_ {A = ℕ} 0 1). absurd (omega arith);
     }
@@ -162,10 +156,12 @@ module _ (t : Table) (w : Whole t) (a b : ℕ) (n : Noticing t a b) where
         placed = λ j l. rw (jobs j l) (placed-reissued u (told-reissue q b) grown (node-reissue q b) (jobAt t j) (w .facts .job j l .holder) (w .facts .job j l .thief) (w .side .placed j l));
       }
 
-  pub side-noticed : Side (noticed t a b) (flight (noticed t a b))
-  unfolding noticed
-  side-noticed =
-      let q = quieted t a b in
-      byBool (eqb a 0)
-      (λ e. rw (e, noticed) (rw (flight-reissue q b, flight-quieted t a b) side-reissued))
-      (λ e. rw (e, noticed) (rw (flight-quieted t a b) (side-quieted (eqb-false a 0 e))))
+pub side-noticed : (t : Table) → Whole t → (a b : ℕ) → Noticing t a b → Side (noticed t a b) (flight (noticed t a b))
+unfolding noticed
+side-noticed t w a b n =
+    let q = quieted t a b in
+    let al = machine-16 t w a (n .machine) in
+    let bl = machine-16 t w b (n .named) in
+    byBool (eqb a 0)
+    (λ e. rw (e, noticed) (rw (flight-reissue q b, flight-quieted t a b) (side-reissued t a b w al bl (n .dead))))
+    (λ e. rw (e, noticed) (rw (flight-quieted t a b) (side-quieted t a b w al bl (n .dead) (eqb-false a 0 e))))

@@ -40,7 +40,8 @@ unfolding reclaimed
 trip-reclaimed t a b l z al ps hj hr i =
     byBool (not (eqb (nodeAt t a .«reserved_replica») 0) && eqb (nodeAt t a .«reserved_thief») b)
     (λ e. rw (e, reclaimed)
-    (trip-table t (returned t a) l ps (λ j. unfold returned in simp (views, entered)) (frame-returned t a z .alive) (pools-returned t a z al hj hr (i .pools))
+    (trip-table t (returned t a) l ps (λ j. unfold returned in simp (views, entered)) (frame-returned t a z .alive)
+    (pools-returned t a z al hj hr (i .pools))
     (λ j p jl pl o. has-returned t a z al hj hr (i .pools) j p jl) i))
     (λ e. rw (e, reclaimed) i)
 
@@ -64,12 +65,9 @@ job-reclaimed : (t : Table) (a b j : ℕ) → jobAt (reclaimed t a b) j ≡ jobA
 unfolding reclaimed returned
 job-reclaimed t a b j = byBool (not (eqb (nodeAt t a .«reserved_replica») 0) && eqb (nodeAt t a .«reserved_thief») b) (λ e. rw (e, reclaimed) (simp (views, entered))) (λ e. rw (e, reclaimed))
 
-module _ (t : Table) (w : Whole t) (a b : ℕ) (n : Noticing t a b) where
-  al : a < 16
-  al = machine-16 t w a (n .machine)
-
+module _ (t : Table) (a b : ℕ) (w : Whole t) (al : a < 16) (gone : nodeAt t b .alive ≢ 1) where
   not-root : b ≢ 0
-  not-root e = n .dead (rw e (w .facts .root))
+  not-root e = gone (rw e (w .facts .root))
 
   trip-quieted : Trip (quieted t a b) (filter (notFrom b a) (flight t))
   unfolding quieted informed sift
@@ -84,7 +82,7 @@ module _ (t : Table) (w : Whole t) (a b : ℕ) (n : Noticing t a b) where
       let pi : Places i = λ j jl. rw (ji j) (ps j jl) in
       let pr : Places r = λ j jl. rw (job-reclaimed i a b j) (pi j jl) in
       let dropped : Trip t l =
-      trip-without t t b (notFrom b a) w not-root (λ j. refl) (dead-is t b (n .dead))
+      trip-without t t b (notFrom b a) w not-root (λ j. refl) (dead-is t b gone)
       (λ m e. refl) (λ m j jl e. refl) (λ j bl jl. w .trip .pools b j bl jl) (λ x f o. not-from b a x f) in
       let told : Trip i l = trip-same t i ji (λ k. simp views) (λ m j. simp views) l dropped in
       let back : Trip r l = trip-reclaimed i a b l iz al pi (rw ni (w .facts .machine a al .reserved-job)) (rw ni (rw (ji (nodeAt t a .«reserved_job»)) (w .side .copies a al .reserved))) told in
@@ -127,7 +125,7 @@ pub trip-noticed : (t : Table) → Whole t → (a b : ℕ) → Noticing t a b �
 unfolding noticed
 trip-noticed t w a b n =
     let q = quieted t a b in
-    let g : Trip q (flight q) = rw (flight-quieted t a b) (trip-quieted t w a b n) in
+    let g : Trip q (flight q) = rw (flight-quieted t a b) (trip-quieted t a b w (machine-16 t w a (n .machine)) (n .dead)) in
     byBool (eqb a 0)
     (λ e. rw (e, noticed) (rw (flight-reissue q b) (trip-reissue q b (sized-quieted t (w .sized) a b) (flight q) g)))
     (λ e. rw (e, noticed) g)

@@ -62,9 +62,6 @@ module _ (t : Table) (v : Valid t) where
   abbrev o : Ok t
   o = v .ok
 
-  machine-16 : (a : ℕ) → a < t .machines → a < 16
-  machine-16 a h = omega (arith, machines-most t (o .sizes))
-
   pub valid-admitted : (a : ℕ) → Admitting t a → Valid (admitted t a)
   unfolding admitted
   valid-admitted a d = record {
@@ -79,7 +76,7 @@ module _ (t : Table) (v : Valid t) where
   valid-stolen a b d =
       let M = t .machines in
       let n = waiting (nodeAt t a) (b + 1) in
-      let uo = ok-waiting t s o a (b + 1) (machine-16 a (d .machine)) (d .alive) (omega (arith, d .victim)) in
+      let uo = ok-waiting t s o a (b + 1) (omega (arith, d .machine, machines-most t (o .sizes))) (d .alive) (omega (arith, d .victim)) in
       valid-send (withNode t a n) (sized-node t a n s) uo (message 1 a b 0 0 0) (room-node t a n (unfold waiting in refl) b (d .room))
       (simp wide (rw (lt-ltb a M (d .machine), lt-ltb b M (d .victim))))
 
@@ -107,7 +104,7 @@ module _ (t : Table) (v : Valid t) where
       let B = bound t in
       let n = nodeAt t a in
       let q = poolAt t a b in
-      let a16 = machine-16 a (d .machine) in
+      let a16 : a < 16 = omega (arith, d .machine, machines-most t (o .sizes)) in
       let b64 : b < 64 = omega (arith, d .entry, entries-most t (o .sizes)) in
       let c = cell-copy E B (n .alive) b q (o .pool a b a16 b64) (d .pooled) in
       record {
@@ -124,7 +121,7 @@ module _ (t : Table) (v : Valid t) where
       let M = t .machines in
       let E = t .entries in
       let B = bound t in
-      let a16 = machine-16 a (d .machine) in
+      let a16 : a < 16 = omega (arith, d .machine, machines-most t (o .sizes)) in
       let w = nodeAt t a in
       let j = w .«running_job» in
       let r = w .«running_replica» in

@@ -83,16 +83,7 @@ module _ (t : Table) (a : ℕ) where
 
 -- ---- check 9
 
-module _ (t : Table) (v : Valid t) (a : ℕ) (d : Dying t a) where
-  abbrev s : Sized t
-  s = v .sized
-
-  abbrev o : Ok t
-  o = v .ok
-
-  h : a < 16
-  h = omega (arith, d .machine, machines-most t (o .sizes))
-
+module _ (t : Table) (s : Sized t) (o : Ok t) (a : ℕ) (h : a < 16) (nz : a ≢ 0) where
   sizes-died : sizesOk (died t a) ≡ true
   sizes-died =
       let p = leb 2 (t .machines) in
@@ -120,12 +111,14 @@ module _ (t : Table) (v : Valid t) (a : ℕ) (d : Dying t a) where
         (λ x c. let q = node-died-other t a (x .to) (far x (c .1)) in simp (machines-died t a, entries-died t a, bound-died t a, q) (c .0))
         (every-filter (λ x. inFlightOk t x ≡ true) (notTo a) (flight t) (o .messages)));
     padded = unfold died in padded-sift (withNode (wipe t a) a noMachine) (sized-node (wipe t a) a noMachine (sized-wipe t a s)) (notTo a);
-    root = rw (node-died-other t a 0 (λ e. d .other (sym e))) (o .root);
+    root = rw (node-died-other t a 0 (λ e. nz (sym e))) (o .root);
     told = λ k i l m. simp (machines-died t a, told-died t a) (
         byEq i a
         (λ e. rw e (simp (node-died-own t a s h) (told-now-dead (t .machines) (nodeAt t a .alive) k a (toldAt t k a) (o .told k a l h))))
         (λ e. let q = node-died-other t a i e in simp q (o .told k i l m)));
   }
 
-  pub valid-died : Valid (died t a)
-  valid-died = record { sized = sized-died t s a; ok = ok-died }
+pub valid-died : (t : Table) → Valid t → (a : ℕ) → Dying t a → Valid (died t a)
+valid-died t v a d =
+    let o = v .ok in
+    record { sized = sized-died t (v .sized) a; ok = ok-died t (v .sized) o a (omega (arith, d .machine, machines-most t (o .sizes))) (d .other) }

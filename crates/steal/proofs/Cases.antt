@@ -33,10 +33,7 @@ module _ (t : Table) (a b : ℕ) (h : a < t .machines) (k : b < t .machines) whe
       (λ e4. byBool (leb 128 (t .«in_flight»)) (λ e. rw (e1, e2, e3, e4, e, stealOf) (refused 16 (λ z. omega arith) refl))
       (λ e5. rw (e1, e2, e3, e4, e5, stealOf)
       (f (record {
-        machine = h;
-        victim = k;
-        alive = eqb-true _ 1 (not-false (lives t a) e1);
-        untold = eqb-true (toldAt t a b) 0 (not-false _ e4);
+        machine = h; victim = k; alive = eqb-true _ 1 (not-false (lives t a) e1); untold = eqb-true (toldAt t a b) 0 (not-false _ e4);
         room = λ l. leb-false 128 (t .«in_flight») e5;
       })))))))
 

@@ -305,7 +305,8 @@ slots-told t m d r = refl
 pub ruleset views = (bond-job, bond-node, bond-pool, bond-told, bond-messages, job-node, job-pool, job-told, job-messages, node-job, node-pool, node-told, node-messages, pool-job, pool-node, pool-told, pool-messages, told-job, told-node, told-pool, told-messages, message-job, message-node, message-pool, message-told, flight-job, flight-node, flight-pool, flight-told, machines-job, machines-node, machines-pool, machines-told, machines-messages, entries-job, entries-node, entries-pool, entries-told, entries-messages, bonds-job, bonds-node, bonds-pool, bonds-told, bonds-messages, used-job, used-node, used-pool, used-told, slots-job, slots-node, slots-pool, slots-told)
 
 -- a part of the machines' records that machine m's new record has too; also where there is no machine m, since then nothing is written
-pub part-node : {A : Type 0} (f : Machine → A) (t : Table) (m : ℕ) (v : Machine) → f v ≡ f (nodeAt t m) → (k : ℕ) → f (nodeAt (withNode t m v) k) ≡ f (nodeAt t k)
+pub part-node : {A : Type 0} (f : Machine → A) (t : Table) (m : ℕ) (v : Machine)
+    → f v ≡ f (nodeAt t m) → (k : ℕ) → f (nodeAt (withNode t m v) k) ≡ f (nodeAt t k)
 unfolding nodeAt withNode
 part-node f t m v e k =
     byEq k m
