@@ -74,7 +74,8 @@ module _ (s : Table) (x : Message) (h : Hand s x) (c : Conserved s (x ∷ flight
       (λ j a e. ty j (jobAt s j .replica) ∙ sym (tx j (jobAt s j .replica)))
       (λ j p a e o f.
       let r = jobAt s j .replica in
-      omega (arith, has-release s (x .to) p j r n (h .sized) (h .message .to) refl (reserves-same n (x .job) (x .replica) (x .thief) j r m ∙ sym (tx j r) ∙ f), ap ind (result-other AUTH j p x k3 refl)))
+      omega (arith, has-release s (x .to) p j r n refl (reserves-same n (x .job) (x .replica) (x .thief) j r m ∙ sym (tx j r) ∙ f),
+      ap ind (result-other AUTH j p x k3 refl)))
       (λ j p a e o f. absurd (true≢false (sym f ∙ ack-other SCHEDULE j (jobAt s j .replica) p y (unfold message in refl) refl)))
       g in
       trip-sends s u y released (λ e. h .room) (h .facts .root) (unfold message in λ e. absurd (false≢true e)) t
@@ -144,7 +145,7 @@ module _ (s : Table) (x : Message) (h : Hand s x) (c : Conserved s (x ∷ flight
       let er : x .replica ≡ r = eqb-true _ _ (and-right (eqb (x .job) j) (eqb (x .replica) r) es) in
       let lt : x .replica < jobAt s j .replica = rw ej at (g .known .0 .old k5 (rw ej o)) in
       absurd (omega arith))
-      (λ f. omega (arith, has-release s (x .to) p j r n (h .sized) (h .message .to) refl f)))
+      (λ f. omega (arith, has-release s (x .to) p j r n refl f)))
       g in
       trip-sends s u y released (λ e. h .room) (h .facts .root) (unfold message in λ e. absurd (false≢true e)) t
 

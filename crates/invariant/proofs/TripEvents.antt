@@ -43,7 +43,7 @@ trip-admitted t w a d =
     simp (entered, views) (trip-issued t a 1 al (w .sized) (omega arith) (flight t) (w .trip))
 
 -- ---- a machine's record is replaced by one that is as alive, and a message is sent that counts for no move
-module _ (t : Table) (a : ℕ) (n : Machine) (y : Message) (c : ℕ) (w : Whole t) (al : a < 16) (room : RoomFor t (y .to))
+module _ (t : Table) (a : ℕ) (n : Machine) (y : Message) (c : ℕ) (w : Whole t) (room : RoomFor t (y .to))
     (na : n .alive ≡ nodeAt t a .alive) (ey : y .kind ≡ c) (tc : isTrip c ≡ false) (ac : eqb c ACK ≡ false) (home : toRoot (y .kind) ≡ true → y .to ≡ 0) (ky : Known t y)
     (kept : (j : ℕ) → j < 64 → min 1 (has t j (jobAt t j .replica) a) ≤ has (withNode t a n) j (jobAt t j .replica) a + ind (resultFrom j a y)) where
   trip-sent : Trips (send (withNode t a n) y)
@@ -61,13 +61,12 @@ module _ (t : Table) (a : ℕ) (n : Machine) (y : Message) (c : ℕ) (w : Whole 
 pub trip-stolen : (t : Table) → Whole t → (a b : ℕ) → Stealing t a b → Trips (stolen t a b)
 unfolding stolen message
 trip-stolen t w a b d =
-    let al = machine-16 t w a (d .machine) in
     let n = nodeAt t a in
     let y = message FISH a b 0 0 0 in
-    trip-sent t a (waiting n (b + 1)) y FISH w al (d .room) (alive-waiting n (b + 1))
+    trip-sent t a (waiting n (b + 1)) y FISH w (d .room) (alive-waiting n (b + 1))
     (unfold message in refl) (unfold isTrip in refl) refl (unfold message in λ e. absurd (false≢true e))
     (known-plain t y FISH (unfold message in refl) (unfold isTrip in refl) refl (unfold message in omega arith))
-    (λ j jl. omega (arith, has-waiting t a a j (jobAt t j .replica) (b + 1) n (w .sized) al refl))
+    (λ j jl. omega (arith, has-waiting t a a j (jobAt t j .replica) (b + 1) n refl))
 
 -- ---- Done: the running copy goes, and its RESULT is on its way
 runs-result : (n : Machine) (a v j r : ℕ) → ind (runsJob n j r) ≤ ind (resultFrom j a (result a (n .«running_job») (n .«running_replica») v))
@@ -86,7 +85,7 @@ trip-finished t w a d =
     let al = machine-16 t w a (d .machine) in
     let n = nodeAt t a in
     let y = result a (n .«running_job») (n .«running_replica») (priceBits (bondAt t (n .«running_job»))) in
-    trip-sent t a (running n 0 0) y RESULT w al (λ e. d .room) (alive-running n 0 0)
+    trip-sent t a (running n 0 0) y RESULT w (λ e. d .room) (alive-running n 0 0)
     (unfold result in refl) (unfold isTrip in refl) refl (unfold result in λ e. refl)
     (known-plain t y RESULT (unfold result in refl) (unfold isTrip in refl) refl (unfold result in w .side .copies a al .running))
     (λ j jl.

@@ -15,13 +15,13 @@ use Rattle.table.specs.declared.Table.{Table}
 use Rattle.table.specs.Views.{jobAt, nodeAt, flight, withJob, withNode}
 use Rattle.table.specs.Messages.{sift, notFrom}
 use Rattle.table.specs.Parts.{opened, waiting, returned}
-use Rattle.table.proofs.Views.{Sized, views, sized-job, job-other, pool-node}
+use Rattle.table.proofs.Views.{Sized, views, sized-job, job-other, pool-node, alive-node}
 use Rattle.notice.specs.Notice.{informed, unwaited, reclaimed, quieted, lost, reissueOne, reissue, noticed}
 use Rattle.notice.proofs.Cases.{Noticing}
-use Rattle.preservation.proofs.Sizes.{sized-enter, sized-informed, sized-reclaimed, sized-quieted}
+use Rattle.preservation.proofs.Sizes.{sized-enter, sized-informed, sized-quieted}
 use Rattle.lists.specs.Scan.{filter, upTo}
 use Rattle.lists.proofs.Cases.{byBool}
-use Rattle.invariant.proofs.Frame.{Frame, frame-refl, frame-node, frame-returned, job-enter, entered}
+use Rattle.invariant.proofs.Frame.{frame-returned, job-enter, entered}
 use Rattle.invariant.proofs.About.{alive-waiting}
 use Rattle.invariant.proofs.Quieted.{flight-quieted}
 use Rattle.invariant.proofs.Reissued.{flight-reissue}
@@ -46,15 +46,15 @@ trip-reclaimed t a b l z al ps hj hr i =
     (λ e. rw (e, reclaimed) i)
 
 -- ---- a wait ends
-trip-unwaited : (t : Table) (a b : ℕ) (l : List Message) → Sized t → a < 16 → Places t → Trip t l → Trip (unwaited t a b) l
+trip-unwaited : (t : Table) (a b : ℕ) (l : List Message) → Places t → Trip t l → Trip (unwaited t a b) l
 unfolding unwaited
-trip-unwaited t a b l z al ps i =
+trip-unwaited t a b l ps i =
     let n = nodeAt t a in
-    let f : Frame t (withNode t a (waiting n 0)) = frame-node t t (frame-refl t z) a (waiting n 0) (alive-waiting n 0) in
     byBool (eqb (n .waits) (b + 1))
     (λ e. rw (e, unwaited)
-    (trip-table t (withNode t a (waiting n 0)) l ps (λ j. simp views) (f .alive) (λ m j ml jl. rw pool-node (i .pools m j ml jl))
-    (λ j p jl pl o. omega (arith, has-waiting t a p j (jobAt t j .replica) 0 n z al refl)) i))
+    (trip-table t (withNode t a (waiting n 0)) l ps (λ j. simp views) (alive-node t a (waiting n 0) (alive-waiting n 0))
+    (λ m j ml jl. rw pool-node (i .pools m j ml jl))
+    (λ j p jl pl o. omega (arith, has-waiting t a p j (jobAt t j .replica) 0 n refl)) i))
     (λ e. rw (e, unwaited) i)
 
 -- ---- what every machine does that is told
@@ -86,7 +86,7 @@ module _ (t : Table) (a b : ℕ) (w : Whole t) (al : a < 16) (gone : nodeAt t b 
       (λ m e. refl) (λ m j jl e. refl) (λ j bl jl. w .trip .pools b j bl jl) (λ x f o. not-from b a x f) in
       let told : Trip i l = trip-same t i ji (λ k. simp views) (λ m j. simp views) l dropped in
       let back : Trip r l = trip-reclaimed i a b l iz al pi (rw ni (w .facts .machine a al .reserved-job)) (rw ni (rw (ji (nodeAt t a .«reserved_job»)) (w .side .copies a al .reserved))) told in
-      trip-unwaited r a b l (sized-reclaimed i iz a b) al pr back
+      trip-unwaited r a b l pr back
 
 -- ---- the root issues the lost jobs again, one after the other; t is the table before the first
 module _ (t : Table) (b : ℕ) (z : Sized t) (l : List Message) (g : Trip t l) where

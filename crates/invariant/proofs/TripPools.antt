@@ -12,10 +12,9 @@ use Rattle.table.specs.declared.Table.{Table}
 use Rattle.table.specs.Views.{jobAt, nodeAt, poolAt, flight, withNode, withPool, enter}
 use Rattle.table.specs.Messages.{lowest}
 use Rattle.table.specs.Parts.{reserve, waiting, message, FISH, REQ, SCHEDULE, ACK, NOWORK}
-use Rattle.table.proofs.Views.{Sized, views, pool-node, flight-node}
+use Rattle.table.proofs.Views.{views, pool-node, flight-node}
 use Rattle.victim_handlers.specs.VictimHandlers.{noWork, grant, onFish}
 use Rattle.thief_handlers.specs.ThiefHandlers.{onSchedule, onNoWork}
-use Rattle.preservation.proofs.Sizes.{sized-enter}
 use Rattle.lists.proofs.Cases.{byBool, and-left, and-right}
 use Rattle.lists.proofs.Count.{ind}
 use Rattle.invariant.proofs.Frame.{Frame, frame-refl, frame-node, frame-pool, frame-enter, node-enter, entered}
@@ -96,7 +95,6 @@ module _ (s : Table) (x : Message) (h : Hand s x) (g : Trip s (x ∷ flight s)) 
       let y = message ACK b 0 (x .job) (x .replica) 0 in
       let w = h .message in
       let k = g .known .0 in
-      let qz : Sized q = sized-enter s b (x .job) (x .replica) (h .sized) in
       let f : Frame s u = frame-node s q (frame-enter s s (frame-refl s (h .sized)) b (x .job) (x .replica)) b (waiting n 0) (alive-waiting n 0) in
       let tx : (j r : ℕ) → trip j r x ≡ eqb (x .job) j && eqb (x .replica) r = λ j r. unfold trip isTrip in rw k6 in
       let ty : (j r : ℕ) → trip j r y ≡ eqb (x .job) j && eqb (x .replica) r = λ j r. unfold trip isTrip message in refl in
@@ -107,7 +105,8 @@ module _ (s : Table) (x : Message) (h : Hand s x) (g : Trip s (x ∷ flight s)) 
       (λ j a c. ty j (jobAt s j .replica) ∙ sym (tx j (jobAt s j .replica)))
       (λ j p a c o e.
       let r = jobAt s j .replica in
-      omega (arith, has-enter s b (x .job) (x .replica) j r p (h .sized) (w .to) (w .job) a (λ f. rw f (k .cap)), has-waiting q b p j r 0 n qz (w .to) (node-enter s b (x .job) (x .replica) b), ap ind (result-other SCHEDULE j p x k6 refl)))
+      omega (arith, has-enter s b (x .job) (x .replica) j r p (h .sized) (w .to) (w .job) a (λ f. rw f (k .cap)),
+      has-waiting q b p j r 0 n (node-enter s b (x .job) (x .replica) b), ap ind (result-other SCHEDULE j p x k6 refl)))
       (λ j p a c o e.
       let r = jobAt s j .replica in
       let es = ack-eqs j r p b (x .job) (x .replica) e in
@@ -127,5 +126,5 @@ module _ (s : Table) (x : Message) (h : Hand s x) (g : Trip s (x ∷ flight s)) 
       let f : Frame s u = frame-node s s (frame-refl s (h .sized)) b (waiting n 0) (alive-waiting n 0) in
       simp flight-node
       (trip-table s u (flight s) (places s (h .facts)) (λ j. simp views) (f .alive) (λ m j a c. rw pool-node (g .pools m j a c))
-      (λ j p a c o. omega (arith, has-waiting s b p j (jobAt s j .replica) 0 n (h .sized) (h .message .to) refl))
+      (λ j p a c o. omega (arith, has-waiting s b p j (jobAt s j .replica) 0 n refl))
       (trip-passed s x (flight s) NOWORK k8 (unfold isTrip in refl) refl g))
