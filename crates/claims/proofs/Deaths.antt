@@ -23,7 +23,7 @@ use Rattle.steal.specs.Steal.{stolen}
 use Rattle.work.specs.Work.{started, finished}
 use Rattle.notice.specs.Notice.{noticed}
 use Rattle.preservation.proofs.Facts.{told-in, told-dead}
-use Rattle.invariant.proofs.State.{Whole}
+use Rattle.invariant.proofs.State.{Whole, machine-16}
 use Rattle.invariant.proofs.Hand.{hand}
 use Rattle.dispatcher.proofs.Fixed.{fixed-machines, fixed-admitted, fixed-stolen, fixed-delivered, fixed-started, fixed-finished, fixed-died, fixed-noticed}
 use Rattle.events.proofs.Views.{node-died, node-died-other}
@@ -57,7 +57,7 @@ deaths-same t u e alive = countTo-same (λ d. gone u d) (λ d. gone t d) 16 (λ 
 deaths-died : (t : Table) (a : ℕ) → Whole t → Dying t a → deaths (died t a) ≡ deaths t + 1
 deaths-died t a w c =
     let u = died t a in
-    let l : a < 16 = omega (arith, c .machine, w .facts .machines-most) in
+    let l = machine-16 t w a (c .machine) in
     let e : u .machines ≡ t .machines = fixed-died (λ s. s .machines) fixed-machines t a in
     let alive : not (eqb (nodeAt t a .alive) 1) ≡ false = rw (eq-eqb (nodeAt t a .alive) 1 (c .alive)) refl in
     let before : gone t a ≡ false = rw (alive, lt-ltb a (t .machines) (c .machine)) refl in
@@ -68,9 +68,6 @@ deaths-died t a w c =
 -- ---- any event
 
 module _ (t : Table) (w : Whole t) (e : List ℕ) where
-  machine-16 : (m : ℕ) → m < t .machines → m < 16
-  machine-16 m h = omega (arith, w .facts .machines-most)
-
   alive-delivered : (k m : ℕ) → k < t .«in_flight» → nodeAt (delivered t k) m .alive ≡ nodeAt t m .alive
   unfolding delivered pull
   alive-delivered k m l = lighter (pull t k) (messageAt t k) (hand t k w l) .alive m ∙ ap (λ (n : Machine). n .alive) (node-messages t _ _ m)
@@ -89,13 +86,14 @@ module _ (t : Table) (w : Whole t) (e : List ℕ) where
       let a = firstOf e in
       let b = secondOf e in
       by-cases Counted t e (λ n r. rw (ne-eqb n 0 (refused-nonzero 9 n (omega arith) r)) (omega arith)) (record {
-        admit = λ c d. quiet (admitted t a) ADMIT c refl (deaths-same t _ (fixed-admitted (λ s. s .machines) fixed-machines t a) (alive-admitted t (w .sized) a));
-        steal = λ c d. quiet (stolen t a b) STEAL c refl (deaths-same t _ (fixed-stolen (λ s. s .machines) fixed-machines t a b) (λ m. alive-stolen t (w .sized) a b m (machine-16 a (d .machine))));
+        admit = λ c d. quiet (admitted t a) ADMIT c refl (deaths-same t _ (fixed-admitted (λ s. s .machines) fixed-machines t a) (alive-admitted t a));
+        steal = λ c d. quiet (stolen t a b) STEAL c refl (deaths-same t _ (fixed-stolen (λ s. s .machines) fixed-machines t a b) (alive-stolen t a b));
         deliver = λ c d. quiet (delivered t (oldest t a b)) DELIVER c refl (deaths-same t _ (fixed-delivered (λ s. s .machines) fixed-machines t (oldest t a b)) (λ m. alive-delivered (oldest t a b) m (d .slot)));
-        start = λ c d. quiet (started t a b) START c refl (deaths-same t _ (fixed-started (λ s. s .machines) fixed-machines t a b) (λ m. alive-started t (w .sized) a b m (machine-16 a (d .machine))));
-        done = λ c d. quiet (finished t a) DONE c refl (deaths-same t _ (fixed-finished (λ s. s .machines) fixed-machines t a) (λ m. alive-finished t (w .sized) a m (machine-16 a (d .machine))));
+        start = λ c d. quiet (started t a b) START c refl (deaths-same t _ (fixed-started (λ s. s .machines) fixed-machines t a b) (alive-started t a b));
+        done = λ c d. quiet (finished t a) DONE c refl (deaths-same t _ (fixed-finished (λ s. s .machines) fixed-machines t a) (alive-finished t a));
         die = λ c d. rw (eq-eqb (codeOf e) DIE c) (deaths-died t a w d);
-        notice = λ c d. quiet (noticed t a b) NOTICE c refl (deaths-same t _ (fixed-noticed (λ s. s .machines) fixed-machines t a b) (λ m. alive-noticed t (w .sized) a b m (machine-16 a (d .machine))));
+        notice = λ c d. quiet (noticed t a b) NOTICE c refl (deaths-same t _ (fixed-noticed (λ s. s .machines) fixed-machines t a b)
+            (λ m. alive-noticed t (w .sized) a b m (machine-16 t w a (d .machine))));
       })
 
 pub deaths-run : (t : Table) (es : List (List ℕ)) → Whole t → deaths (runOf t es) ≡ deaths t + countOf kills t es

@@ -8,7 +8,7 @@ use Rattle.book.specs.Book.{bookVerdict}
 use Rattle.table.specs.declared.Table.{Table}
 use Rattle.table.specs.Views.{jobAt}
 use Rattle.opening.specs.Opening.{openOf}
-use Rattle.preservation.proofs.Answers.{Valid}
+use Rattle.preservation.proofs.Ok.{Valid}
 use Rattle.invariant.proofs.State.{Whole}
 use Rattle.invariant.proofs.Keeps.{whole-run}
 use Rattle.dispatcher.specs.Step.{runOf, answersOf}

@@ -7,7 +7,7 @@ use mathlib.Core.Bool.{Bool, true, false, cond}
 use mathlib.Core.List.{List, [], _∷_, _++_}
 use lib.ListN.{length, getD}
 use Rattle.table.specs.declared.Table.{Table}
-use Rattle.preservation.proofs.Answers.{Valid}
+use Rattle.preservation.proofs.Ok.{Valid}
 use Rattle.dispatcher.specs.Step.{stepOf, runOf, answersOf}
 use Rattle.dispatcher.proofs.Kept.{valid-passes, valid-run, step-answer}
 use Rattle.dispatcher.proofs.Runs.{run-append, run-more, answer-at}

@@ -9,8 +9,10 @@ use Rattle.lists.proofs.Cases.{byBool}
 use Rattle.table.specs.declared.Table.{Table}
 use Rattle.table.proofs.Views.{Sized}
 use Rattle.validity.specs.Validity.{tableOk}
-use Rattle.preservation.proofs.Ok.{ok, passes}
-use Rattle.preservation.proofs.Answers.{Valid, valid-admitted, valid-stolen, valid-delivered, valid-started, valid-finished, valid-died, valid-noticed}
+use Rattle.preservation.proofs.Ok.{Valid, ok, passes}
+use Rattle.preservation.proofs.Accepted.{valid-admitted, valid-stolen, valid-delivered, valid-started, valid-finished}
+use Rattle.preservation.proofs.Died.{valid-died}
+use Rattle.preservation.proofs.Noticed.{valid-noticed}
 use Rattle.dispatcher.specs.Step.{answerOf, stepOf, runOf}
 use Rattle.dispatcher.proofs.ByEvent.{Kept, by-step, by-run}
 
@@ -24,13 +26,13 @@ valid-passes t v = passes t (v .sized) (v .ok)
 
 valid-kept : Kept Valid
 valid-kept t e v = record {
-  admit = λ c d. valid-admitted t v _ (d .entry);
-  steal = λ c d. valid-stolen t v _ _ (d .machine) (d .victim) (d .alive) (d .room);
+  admit = λ c d. valid-admitted t v _ d;
+  steal = λ c d. valid-stolen t v _ _ d;
   deliver = λ c d. valid-delivered t v _ (d .slot);
-  start = λ c d. valid-started t v _ _ (d .machine) (d .entry) (d .alive) (d .pooled);
-  done = λ c d. valid-finished t v _ (d .machine) (d .alive) (d .runs) (d .room);
-  die = λ c d. valid-died t v _ (d .machine) (d .other);
-  notice = λ c d. valid-noticed t v _ _ (d .machine) (d .named) (d .alive) (d .dead) (d .new);
+  start = λ c d. valid-started t v _ _ d;
+  done = λ c d. valid-finished t v _ d;
+  die = λ c d. valid-died t v _ d;
+  notice = λ c d. valid-noticed t v _ _ d;
 }
 
 -- a table that passes is not refused for 9

@@ -70,7 +70,8 @@ module _ (t : Table) (a j : ℕ) (z : Sized t) (al : a < 16) where
   unfolding started
   start-quiet w q = record {
     whole = w;
-    informed = informed-same t (started t a j) (fixed-started (λ v. v .machines) fixed-machines t a j) (λ m. alive-started t z a j m al) (λ m d. simp views) (q .informed);
+    informed = informed-same t (started t a j) (fixed-started (λ v. v .machines) fixed-machines t a j)
+        (alive-started t a j) (λ m d. simp views) (q .informed);
     empty = simp views (q .empty);
   }
 

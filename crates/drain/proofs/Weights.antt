@@ -6,12 +6,13 @@ use mathlib.Core.Bool.{Bool, not, cond, _&&_, _||_}
 use mathlib.Core.List.{List, [], _∷_, _++_}
 use Prim.Native.Nat.{ℕ, _+_, _*_, _≤_, _<_}
 use native.Mathlib.Omega.{arith}
+use borrow.Author.Tests.{eqb-true}
 use lib.Dec.{eqb, leb}
 use lib.ListN.{length}
 use Rattle.table.specs.declared.Message.{Message}
 use Rattle.table.specs.declared.Table.{Table}
 use Rattle.table.specs.Views.{jobAt, nodeAt, poolAt, toldAt, flight, withJob, withNode, withPool, enter}
-use Rattle.table.specs.Messages.{push, send, lowest}
+use Rattle.table.specs.Messages.{push, send, RoomFor, lowest}
 use Rattle.table.specs.Parts.{moved, placed, priced, reserve, release, waiting, reserves, returned, message, FISH, REQ, AUTH, DENIED, OBSOLETE, SCHEDULE, ACK, NOWORK, RESULT}
 use Rattle.table.proofs.Views.{views}
 use Rattle.table.proofs.Messages.{flight-push}
@@ -21,7 +22,7 @@ use Rattle.root_handlers.specs.RootHandlers.{reply, onReq, onAck, onResult}
 use Rattle.handlers.specs.Handlers.{handle}
 use Rattle.lists.proofs.Cases.{byBool}
 use Rattle.invariant.proofs.State.{Hand}
-use Rattle.invariant.proofs.Frame.{Frame, frame-refl, frame-job, frame-pool, frame-node, frame-enter, frame-returned}
+use Rattle.invariant.proofs.Frame.{Frame, frame-refl, frame-job, frame-pool, frame-node, frame-room, frame-enter, frame-returned}
 use Rattle.invariant.proofs.About.{alive-reserve, alive-release, alive-waiting}
 use Rattle.handlers.proofs.Cases.{by-kind}
 
@@ -69,12 +70,16 @@ quiet : (w : ℕ) (s u : Table) → Frame s u → Sent w s u
 quiet w s u f = record { weighs = rw (f .flight) (omega arith); told = f .told; alive = f .alive }
 
 -- a message is sent
-sent : (w : ℕ) (s u : Table) (y : Message) → Frame s u → s .«in_flight» < 128 → weightOf (y .kind) ≤ w → Sent w s (send u y)
+sent : (w : ℕ) (s u : Table) (y : Message) → Frame s u → RoomFor s (y .to) → weightOf (y .kind) ≤ w → Sent w s (send u y)
 unfolding send push
 sent w s u y f room h =
-    let fl : flight (push u y) ≡ flight s ++ y ∷ [] = flight-push u (f .sized) y (rw (f .used) room) ∙ ap (λ (l : List Message). l ++ y ∷ []) (f .flight) in
+    let fl : nodeAt u (y .to) .alive ≡ 1 → flight (push u y) ≡ flight s ++ y ∷ [] =
+    λ e. flight-push u (f .sized) y (frame-room s u f (y .to) room e) ∙ ap (λ (l : List Message). l ++ y ∷ []) (f .flight) in
     byBool (eqb (nodeAt u (y .to) .alive) 1)
-    (λ e. rw (e, send) (record { weighs = rw fl (omega (arith, weight-append (flight s) y)); told = simp views (f .told); alive = simp views (f .alive) }))
+    (λ e. rw (e, send) (record {
+      weighs = rw (fl (eqb-true _ 1 e)) (omega (arith, weight-append (flight s) y));
+      told = simp views (f .told); alive = simp views (f .alive);
+    }))
     (λ e. rw (e, send) (quiet w s u f))
 
 either : (b : Bool) (w : ℕ) (s u v : Table) → Sent w s u → Sent w s v → Sent w s (cond b u v)
@@ -89,11 +94,11 @@ module _ (s : Table) (x : Message) (h : Hand s x) where
 
   no-work : (u : Table) (b th : ℕ) → Frame s u → Sent 1 s (noWork u b th)
   unfolding noWork message weightOf
-  no-work u b th f = sent 1 s u (message NOWORK b th 0 0 0) f (h .room) (omega arith)
+  no-work u b th f = sent 1 s u (message NOWORK b th 0 0 0) f (λ e. h .room) (omega arith)
 
   answered : (u : Table) (k : ℕ) → Frame s u → weightOf k ≤ 3 → Sent 3 s (reply u x k)
   unfolding reply message
-  answered u k f l = sent 3 s u (message k 0 (x .from) (x .job) (x .replica) (x .thief)) f (h .room) l
+  answered u k f l = sent 3 s u (message k 0 (x .from) (x .job) (x .replica) (x .thief)) f (λ e. h .room) l
 
   fish : Sent 4 s (onFish s x)
   unfolding onFish grant noWork message weightOf
@@ -101,11 +106,13 @@ module _ (s : Table) (x : Message) (h : Hand s x) where
       let b = x .to in
       let j = lowest s b in
       let v = reserve (nodeAt s b) j (poolAt s b j) (x .from) in
-      let none : Sent 4 s (send s (message NOWORK b (x .from) 0 0 0)) = sent 4 s s (message NOWORK b (x .from) 0 0 0) own (h .room) (omega arith) in
+      let none : Sent 4 s (send s (message NOWORK b (x .from) 0 0 0)) =
+      sent 4 s s (message NOWORK b (x .from) 0 0 0) own (λ e. h .room) (omega arith) in
       either (not (eqb (nodeAt s b .«reserved_replica») 0)) 4 s _ _ none
       (either (leb 64 j) 4 s _ _ none
       (sent 4 s (withNode (withPool s b j 0) b v) (message REQ b 0 j (poolAt s b j) (x .from))
-      (frame-node s _ (frame-pool s s own b j 0) b v (h .message .to) (alive-reserve (nodeAt s b) j (poolAt s b j) (x .from))) (h .room) (omega arith)))
+      (frame-node s _ (frame-pool s s own b j 0) b v (alive-reserve (nodeAt s b) j (poolAt s b j) (x .from)))
+      (λ e. h .room) (omega arith)))
 
   req : Sent 3 s (onReq s x)
   unfolding onReq weightOf
@@ -116,20 +123,21 @@ module _ (s : Table) (x : Message) (h : Hand s x) where
       (answered (withJob s (x .job) (moved v (x .from) (x .thief))) AUTH (frame-job s s own (x .job) (moved v (x .from) (x .thief))) (omega arith)))
 
   released : Frame s (withNode s (x .to) (release (nodeAt s (x .to))))
-  released = frame-node s s own (x .to) (release (nodeAt s (x .to))) (h .message .to) (alive-release (nodeAt s (x .to)))
+  released = frame-node s s own (x .to) (release (nodeAt s (x .to))) (alive-release (nodeAt s (x .to)))
 
   auth : Sent 2 s (onAuth s x)
   unfolding onAuth message weightOf
   auth =
       either (reserves (nodeAt s (x .to)) (x .job) (x .replica) (x .thief)) 2 s _ s
-      (sent 2 s (withNode s (x .to) (release (nodeAt s (x .to)))) (message SCHEDULE (x .to) (x .thief) (x .job) (x .replica) 0) released (h .room) (omega arith))
+      (sent 2 s (withNode s (x .to) (release (nodeAt s (x .to))))
+      (message SCHEDULE (x .to) (x .thief) (x .job) (x .replica) 0) released (λ e. h .room) (omega arith))
       (nothing 2)
 
   denied : Sent 1 s (onDenied s x)
   unfolding onDenied
   denied =
       either (reserves (nodeAt s (x .to)) (x .job) (x .replica) (x .thief)) 1 s _ s
-      (no-work (returned s (x .to)) (x .to) (x .thief) (frame-returned s (x .to) (h .sized) (h .message .to)))
+      (no-work (returned s (x .to)) (x .to) (x .thief) (frame-returned s (x .to) (h .sized)))
       (nothing 1)
 
   obsolete : Sent 1 s (onObsolete s x)
@@ -144,7 +152,8 @@ module _ (s : Table) (x : Message) (h : Hand s x) where
   schedule =
       let b = x .to in
       sent 1 s (withNode (enter s b (x .job) (x .replica)) b (waiting (nodeAt s b) 0)) (message ACK b 0 (x .job) (x .replica) 0)
-      (frame-node s _ (frame-enter s s own b (x .job) (x .replica)) b (waiting (nodeAt s b) 0) (h .message .to) (alive-waiting (nodeAt s b) 0)) (h .room) (omega arith)
+      (frame-node s _ (frame-enter s s own b (x .job) (x .replica)) b (waiting (nodeAt s b) 0) (alive-waiting (nodeAt s b) 0))
+      (λ e. h .room) (omega arith)
 
   ack : Sent 0 s (onAck s x)
   unfolding onAck
@@ -155,7 +164,7 @@ module _ (s : Table) (x : Message) (h : Hand s x) where
 
   nowork : Sent 0 s (onNoWork s x)
   unfolding onNoWork
-  nowork = quiet 0 s _ (frame-node s s own (x .to) (waiting (nodeAt s (x .to)) 0) (h .message .to) (alive-waiting (nodeAt s (x .to)) 0))
+  nowork = quiet 0 s _ (frame-node s s own (x .to) (waiting (nodeAt s (x .to)) 0) (alive-waiting (nodeAt s (x .to)) 0))
 
   result : Sent 0 s (onResult s x)
   unfolding onResult

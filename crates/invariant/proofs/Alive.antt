@@ -16,40 +16,41 @@ use Rattle.steal.specs.Steal.{stolen}
 use Rattle.work.specs.Work.{started, finished}
 use Rattle.notice.specs.Notice.{quieted, reissue, noticed}
 use Rattle.invariant.proofs.Flight.{view-either, view-send}
-use Rattle.invariant.proofs.Frame.{frame-refl, frame-node, frame-pool, node-enter}
+use Rattle.invariant.proofs.Frame.{node-enter}
 use Rattle.invariant.proofs.About.{alive-waiting, alive-running}
 use Rattle.invariant.proofs.Quieted.{node-quieted, node-quieted-other}
 use Rattle.invariant.proofs.Reissued.{node-reissue}
 use Rattle.invariant.proofs.ConservedNotice.{alive-quieted}
 
-module _ (t : Table) (z : Sized t) where
+module _ (t : Table) where
   pub alive-admitted : (a m : ℕ) → nodeAt (admitted t a) m .alive ≡ nodeAt t m .alive
   unfolding admitted
   alive-admitted a m = simp (views, node-enter)
 
   -- machine a's record is new, and a message is sent
-  alive-sent : (a : ℕ) (v : Machine) (x : Message) (m : ℕ) → a < 16 → v .alive ≡ nodeAt t a .alive → nodeAt (send (withNode t a v) x) m .alive ≡ nodeAt t m .alive
-  alive-sent a v x m l e =
+  alive-sent : (a : ℕ) (v : Machine) (x : Message) → v .alive ≡ nodeAt t a .alive
+      → (m : ℕ) → nodeAt (send (withNode t a v) x) m .alive ≡ nodeAt t m .alive
+  alive-sent a v x e m =
       let u = withNode t a v in
-      ap (λ (n : Machine). n .alive) (view-send (λ s. nodeAt s m) u x (λ n k. node-messages u n k m)) ∙ alive-node t a v z l e m
+      ap (λ (n : Machine). n .alive) (view-send (λ s. nodeAt s m) u x (λ n k. node-messages u n k m)) ∙ alive-node t a v e m
 
-  pub alive-stolen : (a b m : ℕ) → a < 16 → nodeAt (stolen t a b) m .alive ≡ nodeAt t m .alive
+  pub alive-stolen : (a b m : ℕ) → nodeAt (stolen t a b) m .alive ≡ nodeAt t m .alive
   unfolding stolen
-  alive-stolen a b m l = alive-sent a _ _ m l (alive-waiting (nodeAt t a) (b + 1))
+  alive-stolen a b = alive-sent a _ _ (alive-waiting (nodeAt t a) (b + 1))
 
-  pub alive-started : (a b m : ℕ) → a < 16 → nodeAt (started t a b) m .alive ≡ nodeAt t m .alive
+  pub alive-started : (a b m : ℕ) → nodeAt (started t a b) m .alive ≡ nodeAt t m .alive
   unfolding started
-  alive-started a b m l =
-      let u = withPool t a b 0 in
-      frame-node t u (frame-pool t t (frame-refl t z) a b 0) a (running (nodeAt t a) b (poolAt t a b)) l (alive-running (nodeAt t a) b (poolAt t a b)) .alive m
+  alive-started a b m =
+      let q = alive-running (nodeAt t a) b (poolAt t a b) in
+      simp (alive-node (withPool t a b 0) a (running (nodeAt t a) b (poolAt t a b)) (simp views q) m, views)
 
-  pub alive-finished : (a m : ℕ) → a < 16 → nodeAt (finished t a) m .alive ≡ nodeAt t m .alive
+  pub alive-finished : (a m : ℕ) → nodeAt (finished t a) m .alive ≡ nodeAt t m .alive
   unfolding finished
-  alive-finished a m l = alive-sent a _ _ m l (alive-running (nodeAt t a) 0 0)
+  alive-finished a = alive-sent a _ _ (alive-running (nodeAt t a) 0 0)
 
-  pub alive-noticed : (a b m : ℕ) → a < 16 → nodeAt (noticed t a b) m .alive ≡ nodeAt t m .alive
+  pub alive-noticed : Sized t → (a b m : ℕ) → a < 16 → nodeAt (noticed t a b) m .alive ≡ nodeAt t m .alive
   unfolding noticed
-  alive-noticed a b m l =
+  alive-noticed z a b m l =
       let q = quieted t a b in
       let same : nodeAt q m .alive ≡ nodeAt t m .alive =
       byEq m a

@@ -63,7 +63,7 @@ module _ (s : Table) (x : Message) (h : Hand s x) (nr : eqb (x .kind) REQ ≡ fa
     sent k o j r p =
         let y = message k (x .to) o j r 0 in
         let q : plain (y .kind) ≡ true = rw (kind-message k (x .to) o j r 0) p in
-        conserved-sends u y (f .sized) (omega (arith, f .used, h .room)) (f .alive 0 ∙ h .facts .root) (λ e. absurd (plain-not y q e))
+        conserved-sends u y (f .sized) (λ e. omega (arith, f .used, h .room)) (f .alive 0 ∙ h .facts .root) (λ e. absurd (plain-not y q e))
         (rw (f .flight) (matched y q))
 
   module _ (match : reserves (nodeAt s (x .to)) (x .job) (x .replica) (x .thief) ≡ true) where
@@ -76,12 +76,12 @@ module _ (s : Table) (x : Message) (h : Hand s x) (nr : eqb (x .kind) REQ ≡ fa
         let b = x .to in
         let v = release (nodeAt s b) in
         let bl = h .message .to in
-        sent match freed (frame-node s s (frame-refl s (h .sized)) b v bl (alive-release (nodeAt s b)))
+        sent match freed (frame-node s s (frame-refl s (h .sized)) b v (alive-release (nodeAt s b)))
         (node-same s (h .sized) b v bl) (λ k e. node-other s b k v e)
 
     -- the copy returns to the pool
     returns : (k o j r : ℕ) → plain k ≡ true → Conserved (send (returned s (x .to)) (message k (x .to) o j r 0)) (flight (send (returned s (x .to)) (message k (x .to) o j r 0)))
-    returns = sent match (returned s (x .to)) (frame-returned s (x .to) (h .sized) (h .message .to)) own other
+    returns = sent match (returned s (x .to)) (frame-returned s (x .to) (h .sized)) own other
       where
         own : nodeAt (returned s (x .to)) (x .to) ≡ release (nodeAt s (x .to))
         own = node-returned s (x .to) (h .sized) (h .message .to)

@@ -3,7 +3,7 @@
 use mathlib.Core.Path.{_≡_, sym, ap, _∙_}
 use mathlib.Core.Logic.{_≢_}
 use mathlib.Core.Bool.{true, _&&_}
-use Prim.Native.Nat.{ℕ, _<_}
+use Prim.Native.Nat.{ℕ}
 use native.Mathlib.Omega.{arith}
 use lib.Dec.{eqb}
 use borrow.Author.Tests.{ne-eqb, eqb-true}
@@ -16,8 +16,9 @@ use Rattle.table.specs.Views.{nodeAt, flight}
 use Rattle.table.specs.Messages.{notTo}
 use Rattle.table.specs.Parts.{copyIs, reserves, REQ}
 use Rattle.events.specs.Events.{died}
+use Rattle.events.proofs.Cases.{Dying}
 use Rattle.preservation.proofs.Facts.{MessageFacts}
-use Rattle.invariant.proofs.State.{Conserved, Whole, isAnswer, about}
+use Rattle.invariant.proofs.State.{Conserved, Whole, machine-16, isAnswer, about}
 use Rattle.events.proofs.Views.{told-died, flight-died, node-died, node-died-other}
 
 -- a message about m's copy is to m or to the root
@@ -31,10 +32,11 @@ about-kept m th j q a x nz nm asks e =
     let to : x .to ≡ m = eqb-true (x .to) m (and-right (isAnswer (x .kind)) (eqb (x .to) m) (and-left (isAnswer (x .kind) && eqb (x .to) m) _ g)) in
     rw (to, ne-eqb m a nm))
 
-module _ (t : Table) (a : ℕ) (w : Whole t) (al : a < 16) (nz : a ≢ 0) where
+module _ (t : Table) (w : Whole t) (a : ℕ) (d : Dying t a) where
   alive-not : (m : ℕ) → nodeAt (died t a) m .alive ≡ 1 → m ≢ a
   alive-not m alive e =
-      let z : _≡_ {A = ℕ} 0 1 = sym (ap (λ (n : Machine). n .alive) (node-died t a (w .sized) al)) ∙ ap (λ (k : ℕ). nodeAt (died t a) k .alive) (sym e) ∙ alive in
+      let z : _≡_ {A = ℕ} 0 1 = sym (ap (λ (n : Machine). n .alive) (node-died t a (w .sized) (machine-16 t w a (d .machine))))
+      ∙ ap (λ (k : ℕ). nodeAt (died t a) k .alive) (sym e) ∙ alive in
       omega arith
 
   pub conserved-died : Conserved (died t a) (flight (died t a))
@@ -44,6 +46,6 @@ module _ (t : Table) (a : ℕ) (w : Whole t) (al : a < 16) (nz : a ≢ 0) where
       ap (count (about m th j q)) (flight-died t a)
       ∙ count-filter (about m th j q) (notTo a) (flight t)
       (every-map (MessageFacts t) (λ x. about m th j q x ≡ true → notTo a x ≡ true) (flight t)
-      (λ x f. about-kept m th j q a x nz e (λ k. f .root (rw k))) (w .facts .message))
+      (λ x f. about-kept m th j q a x (d .other) e (λ k. f .root (rw k))) (w .facts .message))
       ∙ w .conserved m th j q ml tl (sym (ap (λ (n : Machine). n .alive) same) ∙ alive) (sym (told-died t a m th) ∙ told)
       ∙ ap (λ (n : Machine). ind (reserves n j q th)) (sym same)

@@ -32,7 +32,7 @@ module _ (s : Table) (x : Message) (h : Hand s x) (fish : x .kind ≡ FISH) (c :
   refuses : Conserved (noWork s (x .to) (x .from)) (flight (noWork s (x .to) (x .from)))
   unfolding noWork
   refuses =
-      conserved-plain s s (message NOWORK (x .to) (x .from) 0 0 0) (frame-refl s (h .sized)) (λ m j q th. refl) (h .room) (h .facts .root)
+      conserved-plain s s (message NOWORK (x .to) (x .from) 0 0 0) (frame-refl s (h .sized)) (λ m j q th. refl) (λ e. h .room) (h .facts .root)
       (unfold plain isAnswer message in refl) (conserved-forget s x (flight s) off c)
 
   module _ (j₀ : ℕ) (free : nodeAt s (x .to) .«reserved_replica» ≡ 0) (some : poolAt s (x .to) j₀ ≢ 0) where
@@ -46,7 +46,7 @@ module _ (s : Table) (x : Message) (h : Hand s x) (fish : x .kind ≡ FISH) (c :
     y = message REQ (x .to) 0 j₀ (poolAt s (x .to) j₀) (x .from)
 
     frame-u : Frame s u
-    frame-u = frame-node s (withPool s (x .to) j₀ 0) (frame-pool s s (frame-refl s (h .sized)) (x .to) j₀ 0) (x .to) _ (h .message .to) (alive-reserve _ _ _ _)
+    frame-u = frame-node s (withPool s (x .to) j₀ 0) (frame-pool s s (frame-refl s (h .sized)) (x .to) j₀ 0) (x .to) _ (alive-reserve _ _ _ _)
 
     own : nodeAt u (x .to) ≡ v
     own = node-same (withPool s (x .to) j₀ 0) (sized-pool s (x .to) j₀ 0 (h .sized)) (x .to) _ (h .message .to)
@@ -74,7 +74,8 @@ module _ (s : Table) (x : Message) (h : Hand s x) (fish : x .kind ≡ FISH) (c :
     grants : Conserved (grant s (x .to) (x .from) j₀) (flight (grant s (x .to) (x .from) j₀))
     unfolding grant
     grants =
-        conserved-sends u y (frame-u .sized) (omega (arith, frame-u .used, h .room)) (frame-u .alive 0 ∙ h .facts .root) (unfold message in λ e. refl)
+        conserved-sends u y (frame-u .sized) (λ e. omega (arith, frame-u .used, h .room))
+        (frame-u .alive 0 ∙ h .facts .root) (unfold message in λ e. refl)
         (rw (frame-u .flight) granted)
 
   pub conserved-fish : Conserved (onFish s x) (flight (onFish s x))

@@ -9,12 +9,12 @@ use Rattle.lists.proofs.Count.{ind, count, count-append}
 use Rattle.table.specs.declared.Message.{Message}
 use Rattle.table.specs.declared.Table.{Table}
 use Rattle.table.specs.Views.{nodeAt, messageAt, flight}
-use Rattle.table.specs.Messages.{pull, send}
+use Rattle.table.specs.Messages.{pull, send, RoomFor}
 use Rattle.table.specs.Parts.{reserves, REQ}
 use Rattle.table.proofs.Views.{Sized, views}
 use Rattle.invariant.proofs.State.{Conserved, about}
 use Rattle.invariant.proofs.Flight.{Apart, sends, takes, count-taken}
-use Rattle.invariant.proofs.Frame.{Frame}
+use Rattle.invariant.proofs.Frame.{Frame, frame-room}
 use Rattle.invariant.proofs.About.{plain, about-plain, plain-not, about-dead}
 
 -- every machine of u has the copy reserved that it has in s
@@ -41,7 +41,7 @@ conserved-last : (t : Table) (x : Message) (l : List Message) → Conserved t (x
 conserved-last t x l c m th j q ml tl alive told = omega (arith, count-append (about m th j q) l (x ∷ []), c m th j q ml tl alive told)
 
 -- the message in hand is sent: it counts for a living receiver alone
-pub conserved-sends : (t : Table) (x : Message) → Sized t → t .«in_flight» < 128 → nodeAt t 0 .alive ≡ 1 → (x .kind ≡ REQ → x .to ≡ 0)
+pub conserved-sends : (t : Table) (x : Message) → Sized t → RoomFor t (x .to) → nodeAt t 0 .alive ≡ 1 → (x .kind ≡ REQ → x .to ≡ 0)
     → Conserved t (x ∷ flight t) → Conserved (send t x) (flight (send t x))
 conserved-sends t x s l root asks =
     sends Conserved conserved-apart t x s l
@@ -54,10 +54,11 @@ conserved-takes t k s h c =
     takes t k s h Conserved conserved-apart (λ m th j q ml tl alive told. count-taken t k s h (about m th j q) ∙ c m th j q ml tl alive told)
 
 -- over the table s, an updated table u sends a message that is about no copy
-module _ (s u : Table) (y : Message) (f : Frame s u) (re : SameReserved s u) (room : s .«in_flight» < 128) (root : nodeAt s 0 .alive ≡ 1) (p : plain (y .kind) ≡ true) where
+module _ (s u : Table) (y : Message) (f : Frame s u) (re : SameReserved s u)
+    (room : RoomFor s (y .to)) (root : nodeAt s 0 .alive ≡ 1) (p : plain (y .kind) ≡ true) where
   pub conserved-plain : Conserved s (flight s) → Conserved (send u y) (flight (send u y))
   conserved-plain c =
-      conserved-sends u y (f .sized) (omega (arith, f .used)) (f .alive 0 ∙ root) (λ e. absurd (plain-not y p e))
+      conserved-sends u y (f .sized) (frame-room s u f (y .to) room) (f .alive 0 ∙ root) (λ e. absurd (plain-not y p e))
       (conserved-add u y (flight u) p (rw (f .flight) (conserved-frame s u (flight s) (flight s) f re (λ m th j q. refl) c)))
 
 -- no message is sent

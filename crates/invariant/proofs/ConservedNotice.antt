@@ -18,7 +18,8 @@ use Rattle.table.specs.Views.{nodeAt, toldAt, flight}
 use Rattle.table.specs.Messages.{notFrom}
 use Rattle.table.specs.Parts.{copyIs, reserves, REQ}
 use Rattle.notice.specs.Notice.{quieted, noticed}
-use Rattle.invariant.proofs.State.{Conserved, Whole, Sender, isAnswer, about}
+use Rattle.notice.proofs.Cases.{Noticing}
+use Rattle.invariant.proofs.State.{Conserved, Whole, machine-16, Sender, isAnswer, about}
 use Rattle.invariant.proofs.About.{reserves-release, reserves-waiting, alive-release, alive-waiting}
 use Rattle.invariant.proofs.Quieted.{reclaimedNode, unwaitedNode, quietedNode, flight-quieted, told-quieted, told-quieted-other, told-quieted-others, node-quieted, node-quieted-other}
 use Rattle.invariant.proofs.Reissued.{node-reissue, told-reissue, flight-reissue}
@@ -111,10 +112,11 @@ module _ (t : Table) (a b : ℕ) (w : Whole t) (al : a < 16) (bl : b < 16) (gone
       old (sym (ap (λ (n : Machine). n .alive) same) ∙ alive) (sym (told-quieted-others t a b m th bl tl e) ∙ told)
       ∙ ap (λ (n : Machine). ind (reserves n j q th)) (sym same))
 
-  pub conserved-noticed : Conserved (noticed t a b) (flight (noticed t a b))
-  unfolding noticed
-  conserved-noticed =
-      let s = quieted t a b in
-      byBool (eqb a 0)
-      (λ e. rw (e, noticed) (rw (flight-reissue s b, flight-quieted t a b) (simp (node-reissue, told-reissue) conserved-quieted)))
-      (λ e. rw (e, noticed) (rw (flight-quieted t a b) conserved-quieted))
+pub conserved-noticed : (t : Table) → Whole t → (a b : ℕ) → Noticing t a b → Conserved (noticed t a b) (flight (noticed t a b))
+unfolding noticed
+conserved-noticed t w a b n =
+    let s = quieted t a b in
+    let c = conserved-quieted t a b w (machine-16 t w a (n .machine)) (machine-16 t w b (n .named)) (n .dead) in
+    byBool (eqb a 0)
+    (λ e. rw (e, noticed) (rw (flight-reissue s b, flight-quieted t a b) (simp (node-reissue, told-reissue) c)))
+    (λ e. rw (e, noticed) (rw (flight-quieted t a b) c))

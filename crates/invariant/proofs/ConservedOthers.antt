@@ -37,7 +37,7 @@ module _ (s : Table) (x : Message) (h : Hand s x) (c : Conserved s (x ∷ flight
   unfolding reply
   answers k u f re e a b =
       let y = message k 0 (x .from) (x .job) (x .replica) (x .thief) in
-      conserved-sends u y (f .sized) (omega (arith, f .used, h .room)) (f .alive 0 ∙ h .facts .root)
+      conserved-sends u y (f .sized) (λ e. omega (arith, f .used, h .room)) (f .alive 0 ∙ h .facts .root)
       (λ d. absurd (eqb-false k REQ b (sym (kind-message k 0 (x .from) (x .job) (x .replica) (x .thief)) ∙ d)))
       (rw (f .flight) (conserved-frame s u (x ∷ flight s) (y ∷ flight s) f re (λ m th j q. omega (arith, ap ind (about-reply x k m th j q e a b))) c))
 
@@ -76,8 +76,8 @@ module _ (s : Table) (x : Message) (h : Hand s x) (c : Conserved s (x ∷ flight
   conserved-nowork e =
       let b = x .to in
       let v = waiting (nodeAt s b) 0 in
-      conserved-quiet s (withNode s b v) (frame-node s s here b v (h .message .to) (alive-waiting (nodeAt s b) 0))
-      (λ m j q th. part-kept (λ n. reserves n j q th) s s b v (h .sized) (h .message .to) (λ k. refl) (reserves-waiting (nodeAt s b) 0 j q th) m)
+      conserved-quiet s (withNode s b v) (frame-node s s here b v (alive-waiting (nodeAt s b) 0))
+      (λ m j q th. part-kept (λ n. reserves n j q th) s s b v (λ k. refl) (reserves-waiting (nodeAt s b) 0 j q th) m)
       (forgets (unfold plain isAnswer in rw e))
 
   pub conserved-schedule : x .kind ≡ SCHEDULE → Conserved (onSchedule s x) (flight (onSchedule s x))
@@ -88,6 +88,7 @@ module _ (s : Table) (x : Message) (h : Hand s x) (c : Conserved s (x ∷ flight
       let p = enter s b (x .job) (x .replica) in
       let y = message ACK b 0 (x .job) (x .replica) 0 in
       let f : Frame s p = frame-enter s s here b (x .job) (x .replica) in
-      conserved-plain s (withNode p b v) y (frame-node s p f b v (h .message .to) (alive-waiting (nodeAt s b) 0))
-      (λ m j q th. part-kept (λ n. reserves n j q th) s p b v (f .sized) (h .message .to) (λ k. rw (node-enter s b (x .job) (x .replica) k)) (reserves-waiting (nodeAt s b) 0 j q th) m)
-      (h .room) (h .facts .root) (unfold plain isAnswer message in refl) (forgets (unfold plain isAnswer in rw e))
+      conserved-plain s (withNode p b v) y (frame-node s p f b v (alive-waiting (nodeAt s b) 0))
+      (λ m j q th. part-kept (λ n. reserves n j q th) s p b v (λ k. rw (node-enter s b (x .job) (x .replica) k))
+      (reserves-waiting (nodeAt s b) 0 j q th) m)
+      (λ e. h .room) (h .facts .root) (unfold plain isAnswer message in refl) (forgets (unfold plain isAnswer in rw e))

@@ -7,7 +7,7 @@ use mathlib.Core.List.{List, [], _∷_, _++_}
 use Prim.Native.Nat.{ℕ, _<_}
 use native.Mathlib.Omega.{arith}
 use lib.Dec.{eqb}
-use borrow.Author.Tests.{eqb-false}
+use borrow.Author.Tests.{eqb-true, eqb-false}
 use lib.ListN.{length}
 use Rattle.lists.specs.Scan.{without}
 use Rattle.lists.proofs.Cases.{byBool}
@@ -15,7 +15,7 @@ use Rattle.lists.proofs.Count.{count, count-delete, Every, every-delete, every-
 use Rattle.table.specs.declared.Message.{Message}
 use Rattle.table.specs.declared.Table.{Table}
 use Rattle.table.specs.Views.{noMessage, nodeAt, messageAt, flight, withMessages}
-use Rattle.table.specs.Messages.{push, pull, send}
+use Rattle.table.specs.Messages.{push, pull, send, RoomFor}
 use Rattle.table.proofs.Views.{Sized, length-flight}
 use Rattle.table.proofs.Messages.{flight-push, flight-pull, message-flight}
 
@@ -41,14 +41,14 @@ unfolding pull
 pulled P a t k l i = a t _ _ l i
 
 -- the message in hand is stored at the end, or nowhere where its receiver is dead
-pub sends : (P : Table → List Message → Type 0) → Apart P → (t : Table) (x : Message) → Sized t → t .«in_flight» < 128
+pub sends : (P : Table → List Message → Type 0) → Apart P → (t : Table) (x : Message) → Sized t → RoomFor t (x .to)
     → (P t (x ∷ flight t) → P t (flight t ++ x ∷ []))
     → (nodeAt t (x .to) .alive ≢ 1 → P t (x ∷ flight t) → P t (flight t))
     → P t (x ∷ flight t) → P (send t x) (flight (send t x))
 unfolding send
 sends P a t x s l last drop i =
     byBool (eqb (nodeAt t (x .to) .alive) 1)
-    (λ e. rw (e, send) (rw (flight-push t s x l) (pushed P a t x (flight t ++ x ∷ []) (last i))))
+    (λ e. rw (e, send) (rw (flight-push t s x (l (eqb-true _ 1 e))) (pushed P a t x (flight t ++ x ∷ []) (last i))))
     (λ e. rw (e, send) (drop (eqb-false _ _ e) i))
 
 -- the message in slot k is taken off

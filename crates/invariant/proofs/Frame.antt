@@ -1,15 +1,15 @@
 -- Updates that change jobs, pools and single parts of machines: the messages in flight, who lives and who was told of whom stay as they were.
 -- Assumes nothing.
-use mathlib.Core.Path.{_≡_, refl}
+use mathlib.Core.Path.{_≡_, refl, sym, _∙_}
 use mathlib.Core.Logic.{_≢_}
 use Prim.Native.Nat.{ℕ, _<_, max}
-use Rattle.lists.proofs.Cases.{byEq}
 use Rattle.table.specs.declared.Job.{Job}
 use Rattle.table.specs.declared.Machine.{Machine}
 use Rattle.table.specs.declared.Table.{Table}
 use Rattle.table.specs.Views.{jobAt, nodeAt, poolAt, toldAt, flight, withJob, withNode, withPool, enter}
+use Rattle.table.specs.Messages.{RoomFor}
 use Rattle.table.specs.Parts.{release, returned}
-use Rattle.table.proofs.Views.{Sized, views, sized-job, sized-node, sized-pool, node-same, node-other, node-pool}
+use Rattle.table.proofs.Views.{Sized, views, sized-job, sized-node, sized-pool, node-same, node-other, part-node, node-pool}
 use Rattle.preservation.proofs.Sizes.{sized-enter}
 
 pub record Frame (s u : Table) : Type 0 where
@@ -23,12 +23,9 @@ pub frame-refl : (s : Table) → Sized s → Frame s s
 frame-refl s z = record { sized = z; used = refl; flight = refl; told = λ m d. refl; alive = λ m. refl }
 
 -- a part of the machines' records that machine b's new record has too
-pub part-kept : {A : Type 0} (f : Machine → A) (s u : Table) (b : ℕ) (v : Machine) → Sized u → b < 16
+pub part-kept : {A : Type 0} (f : Machine → A) (s u : Table) (b : ℕ) (v : Machine)
     → ((m : ℕ) → f (nodeAt u m) ≡ f (nodeAt s m)) → f v ≡ f (nodeAt s b) → (m : ℕ) → f (nodeAt (withNode u b v) m) ≡ f (nodeAt s m)
-part-kept f s u b v z bl same e m =
-    byEq m b
-    (λ d. rw (d, node-same u z b v bl) e)
-    (λ d. rw (node-other u b m v d) (same m))
+part-kept f s u b v same e m = part-node f u b v (e ∙ sym (same b)) m ∙ same m
 
 module _ (s u : Table) (f : Frame s u) where
   pub frame-job : (j : ℕ) (v : Job) → Frame s (withJob u j v)
@@ -37,23 +34,23 @@ module _ (s u : Table) (f : Frame s u) where
   pub frame-pool : (m j r : ℕ) → Frame s (withPool u m j r)
   frame-pool m j r = record { sized = sized-pool u m j r (f .sized); used = simp views (f .used); flight = simp views (f .flight); told = simp views (f .told); alive = simp views (f .alive) }
 
-  pub frame-node : (b : ℕ) (v : Machine) → b < 16 → v .alive ≡ nodeAt s b .alive → Frame s (withNode u b v)
-  frame-node b v bl e = record {
-    sized = sized-node u b v (f .sized);
-    used = simp views (f .used);
-    flight = simp views (f .flight);
-    told = simp views (f .told);
-    alive = part-kept (λ n. n .alive) s u b v (f .sized) bl (f .alive) e;
+  pub frame-node : (b : ℕ) (v : Machine) → v .alive ≡ nodeAt s b .alive → Frame s (withNode u b v)
+  frame-node b v e = record {
+    sized = sized-node u b v (f .sized); used = simp views (f .used); flight = simp views (f .flight); told = simp views (f .told);
+    alive = part-kept (λ n. n .alive) s u b v (f .alive) e;
   }
+
+  pub frame-room : (b : ℕ) → RoomFor s b → RoomFor u b
+  frame-room b r e = rw (f .used) (r (sym (f .alive b) ∙ e))
 
   pub frame-enter : (m j r : ℕ) → Frame s (enter u m j r)
   unfolding enter
   frame-enter m j r = frame-pool m j (max (poolAt u m j) r)
 
 -- the reserved copy returns to the pool
-pub frame-returned : (s : Table) (b : ℕ) → Sized s → b < 16 → Frame s (returned s b)
+pub frame-returned : (s : Table) (b : ℕ) → Sized s → Frame s (returned s b)
 unfolding returned release
-frame-returned s b z bl = frame-node s _ (frame-enter s s (frame-refl s z) b _ _) b _ bl refl
+frame-returned s b z = frame-node s _ (frame-enter s s (frame-refl s z) b _ _) b _ refl
 
 pub node-returned : (s : Table) (b : ℕ) → Sized s → b < 16 → nodeAt (returned s b) b ≡ release (nodeAt s b)
 unfolding returned

@@ -2,7 +2,7 @@
 -- Assumes nothing.
 use mathlib.Core.Path.{_≡_, refl}
 use mathlib.Core.Bool.{Bool, true}
-use Prim.Native.Nat.{ℕ, _+_, _<_}
+use Prim.Native.Nat.{ℕ, _+_}
 use native.Mathlib.Omega.{arith}
 use lib.Dec.{eqb}
 use Rattle.pricer.specs.Price.{priceBits}
@@ -14,16 +14,19 @@ use Rattle.table.specs.declared.Machine.{Machine}
 use Rattle.table.specs.declared.Message.{Message}
 use Rattle.table.specs.declared.Table.{Table}
 use Rattle.table.specs.Views.{bondAt, jobAt, nodeAt, poolAt, flight, withJob, withNode, withPool}
-use Rattle.table.specs.Messages.{notTo, notFrom, send}
+use Rattle.table.specs.Messages.{notTo, notFrom, send, RoomFor}
 use Rattle.table.specs.Parts.{opened, running, message, result}
 use Rattle.table.proofs.Views.{views}
 use Rattle.events.specs.Events.{admitted, died}
+use Rattle.events.proofs.Cases.{Admitting}
 use Rattle.steal.specs.Steal.{stolen}
+use Rattle.steal.proofs.Cases.{Stealing}
 use Rattle.work.specs.Work.{started, finished}
+use Rattle.work.proofs.Cases.{Finishing}
 use Rattle.notice.specs.Notice.{lost, quieted, noticed}
 use Rattle.preservation.proofs.Sizes.{sized-quieted}
-use Rattle.invariant.proofs.State.{Prices, RightPrice, Whole}
-use Rattle.invariant.proofs.Frame.{Frame, frame-refl, frame-node, frame-pool, flight-enter, job-enter}
+use Rattle.invariant.proofs.State.{Prices, RightPrice, Whole, entry-64}
+use Rattle.invariant.proofs.Frame.{Frame, frame-refl, frame-node, frame-pool, frame-room, flight-enter, job-enter}
 use Rattle.invariant.proofs.About.{alive-running, alive-waiting}
 use Rattle.events.proofs.Views.{job-died, flight-died}
 use Rattle.notice.proofs.Parts.{job-quieted}
@@ -54,47 +57,41 @@ module _ (t : Table) (w : Whole t) where
   p : PricesBy t t (flight t)
   p = by-prices t (flight t) (w .prices)
 
-  right-admitted : (a : ℕ) → a < 64 → PricesBy t (admitted t a) (flight (admitted t a))
+  pub prices-admitted : (a : ℕ) → Admitting t a → Prices (admitted t a) (flight (admitted t a))
   unfolding admitted
-  right-admitted a l =
+  prices-admitted a d =
       let u = withJob t a (opened 1) in
-      let q : PricesBy t u (flight u) = by-job t a (opened 1) (w .sized) l (open-unpriced 1 (priceBits (bondAt t a))) p in
-      record { sent = rw (flight-enter u 0 a 1) (q .sent); shown = λ j h. rw (job-enter u 0 a 1 j) (q .shown j h) }
+      let q : PricesBy t u (flight u) = by-job t a (opened 1) (w .sized) (entry-64 t w a (d .entry)) (open-unpriced 1 (priceBits (bondAt t a))) p in
+      prices-by t _ _ (λ j. fixed-admitted (λ u. bondAt u j) (fixed-bond j) t a)
+      (record { sent = rw (flight-enter u 0 a 1) (q .sent); shown = λ j h. rw (job-enter u 0 a 1 j) (q .shown j h) })
 
   -- machine a's record is new, and y is sent
-  sent-node : (a : ℕ) (v : Machine) (y : Message) → a < 16 → t .«in_flight» < 128 → v .alive ≡ nodeAt t a .alive → RightPrice t y → PricesBy t (send (withNode t a v) y) (flight (send (withNode t a v) y))
-  sent-node a v y l room alive e =
-      let f : Frame t (withNode t a v) = frame-node t t here a v l alive in
-      by-send t (withNode t a v) y (f .sized) (omega (arith, f .used)) e (by-frame t _ f (λ j. simp views) p)
+  sent-node : (a : ℕ) (v : Machine) (y : Message) → RoomFor t (y .to) → v .alive ≡ nodeAt t a .alive → RightPrice t y
+      → PricesBy t (send (withNode t a v) y) (flight (send (withNode t a v) y))
+  sent-node a v y room alive e =
+      let f : Frame t (withNode t a v) = frame-node t t here a v alive in
+      by-send t (withNode t a v) y (f .sized) (frame-room t _ f (y .to) room) e (by-frame t _ f (λ j. simp views) p)
 
-  right-stolen : (a b : ℕ) → a < 16 → t .«in_flight» < 128 → PricesBy t (stolen t a b) (flight (stolen t a b))
+  pub prices-stolen : (a b : ℕ) → Stealing t a b → Prices (stolen t a b) (flight (stolen t a b))
   unfolding stolen message
-  right-stolen a b l room = sent-node a _ _ l room (alive-waiting (nodeAt t a) (b + 1)) (λ (e : _≡_ {A = ℕ} 1 9). absurd (omega arith))
+  prices-stolen a b d =
+      prices-by t _ _ (λ j. fixed-stolen (λ u. bondAt u j) (fixed-bond j) t a b)
+      (sent-node a _ _ (d .room) (alive-waiting (nodeAt t a) (b + 1)) (λ (e : _≡_ {A = ℕ} 1 9). absurd (omega arith)))
 
-  right-started : (a b : ℕ) → a < 16 → PricesBy t (started t a b) (flight (started t a b))
+  pub prices-started : (a b : ℕ) → Prices (started t a b) (flight (started t a b))
   unfolding started
-  right-started a b l =
+  prices-started a b =
       let u = withPool t a b 0 in
       let v = running (nodeAt t a) b (poolAt t a b) in
-      by-frame t (withNode u a v) (frame-node t u (frame-pool t t here a b 0) a v l (alive-running (nodeAt t a) b (poolAt t a b))) (λ j. simp views) p
+      prices-by t _ _ (λ j. fixed-started (λ u. bondAt u j) (fixed-bond j) t a b)
+      (by-frame t (withNode u a v) (frame-node t u (frame-pool t t here a b 0) a v (alive-running (nodeAt t a) b (poolAt t a b))) (λ j. simp views) p)
 
-  right-finished : (a : ℕ) → a < 16 → t .«in_flight» < 128 → PricesBy t (finished t a) (flight (finished t a))
+  pub prices-finished : (a : ℕ) → Finishing t a → Prices (finished t a) (flight (finished t a))
   unfolding finished
-  right-finished a l room =
+  prices-finished a d =
       let n = nodeAt t a in
-      sent-node a (running n 0 0) _ l room (alive-running n 0 0) (right-result t a (n .«running_job») (n .«running_replica»))
-
-  pub prices-admitted : (a : ℕ) → a < 64 → Prices (admitted t a) (flight (admitted t a))
-  prices-admitted a l = prices-by t (admitted t a) _ (λ j. fixed-admitted (λ u. bondAt u j) (fixed-bond j) t a) (right-admitted a l)
-
-  pub prices-stolen : (a b : ℕ) → a < 16 → t .«in_flight» < 128 → Prices (stolen t a b) (flight (stolen t a b))
-  prices-stolen a b l room = prices-by t (stolen t a b) _ (λ j. fixed-stolen (λ u. bondAt u j) (fixed-bond j) t a b) (right-stolen a b l room)
-
-  pub prices-started : (a b : ℕ) → a < 16 → Prices (started t a b) (flight (started t a b))
-  prices-started a b l = prices-by t (started t a b) _ (λ j. fixed-started (λ u. bondAt u j) (fixed-bond j) t a b) (right-started a b l)
-
-  pub prices-finished : (a : ℕ) → a < 16 → t .«in_flight» < 128 → Prices (finished t a) (flight (finished t a))
-  prices-finished a l room = prices-by t (finished t a) _ (λ j. fixed-finished (λ u. bondAt u j) (fixed-bond j) t a) (right-finished a l room)
+      prices-by t _ _ (λ j. fixed-finished (λ u. bondAt u j) (fixed-bond j) t a)
+      (sent-node a (running n 0 0) _ (λ e. d .room) (alive-running n 0 0) (right-result t a (n .«running_job») (n .«running_replica»)))
 
   -- some of the messages are dropped
   fewer : (q : Message → Bool) → Every (RightPrice t) (filter q (flight t))
@@ -108,17 +105,15 @@ module _ (t : Table) (w : Whole t) where
   quiet : (a b : ℕ) → PricesBy t (quieted t a b) (flight (quieted t a b))
   quiet a b = record { sent = rw (flight-quieted t a b) (fewer (notFrom b a)); shown = λ j h. rw (job-quieted t a b j) (p .shown j h) }
 
-  right-noticed : (a b : ℕ) → PricesBy t (noticed t a b) (flight (noticed t a b))
+  pub prices-noticed : (a b : ℕ) → Prices (noticed t a b) (flight (noticed t a b))
   unfolding noticed
-  right-noticed a b =
+  prices-noticed a b =
       let s = quieted t a b in
       let q = quiet a b in
-      byBool (eqb a 0)
+      prices-by t _ _ (λ j. fixed-noticed (λ u. bondAt u j) (fixed-bond j) t a b)
+      (byBool (eqb a 0)
       (λ e. rw (e, noticed) (record {
         sent = rw (flight-reissue s b) (q .sent);
         shown = λ j h. rw (job-reissue s b (sized-quieted t (w .sized) a b) j h) (reissued-price (jobAt s j) b (priceBits (bondAt t j)) (q .shown j h));
       }))
-      (λ e. rw (e, noticed) q)
-
-  pub prices-noticed : (a b : ℕ) → Prices (noticed t a b) (flight (noticed t a b))
-  prices-noticed a b = prices-by t (noticed t a b) _ (λ j. fixed-noticed (λ u. bondAt u j) (fixed-bond j) t a b) (right-noticed a b)
+      (λ e. rw (e, noticed) q))

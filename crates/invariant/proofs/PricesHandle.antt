@@ -15,7 +15,7 @@ use Rattle.table.specs.declared.Machine.{Machine}
 use Rattle.table.specs.declared.Message.{Message}
 use Rattle.table.specs.declared.Table.{Table}
 use Rattle.table.specs.Views.{bondAt, jobAt, nodeAt, poolAt, toldAt, messageAt, flight, withJob, withNode, withPool, withMessages, enter}
-use Rattle.table.specs.Messages.{pull, send, lowest}
+use Rattle.table.specs.Messages.{pull, send, RoomFor, lowest}
 use Rattle.table.specs.Parts.{moved, placed, priced, reserve, release, waiting, reserves, returned, message, REQ, AUTH, DENIED, OBSOLETE, SCHEDULE, ACK, NOWORK, RESULT}
 use Rattle.table.proofs.Views.{Sized, views, job-same, job-other, flight-job, bond-messages}
 use Rattle.victim_handlers.specs.VictimHandlers.{noWork, grant, onFish, onAuth, onDenied, onObsolete}
@@ -52,7 +52,8 @@ module _ (s : Table) where
   by-apart t n k l p = record { sent = p .sent; shown = simp views (p .shown) }
 
   -- a message that is no RESULT, or carries the right price, is sent
-  pub by-send : (u : Table) (y : Message) → Sized u → u .«in_flight» < 128 → RightPrice s y → PricesBy s u (flight u) → PricesBy s (send u y) (flight (send u y))
+  pub by-send : (u : Table) (y : Message) → Sized u → RoomFor u (y .to) → RightPrice s y → PricesBy s u (flight u)
+      → PricesBy s (send u y) (flight (send u y))
   by-send u y z room e p =
       sends (PricesBy s) by-apart u y z room
       (λ q. record { sent = every-append (RightPrice s) (flight u) y (q .sent .1) (q .sent .0); shown = q .shown })
@@ -79,13 +80,15 @@ module _ (s : Table) (x : Message) (h : Hand s x) (p : PricesBy s s (flight s)) 
 
   -- a message of another kind than RESULT, from a table without new jobs
   sent : (u : Table) (k f o j r th : ℕ) → Frame s u → Right u → eqb k RESULT ≡ false → Right (send u (message k f o j r th))
-  sent u k f o j r th g q n = by-send s u (message k f o j r th) (g .sized) (omega (arith, g .used, h .room)) (λ e. absurd (eqb-false k RESULT n (sym (kind-message k f o j r th) ∙ e))) q
+  sent u k f o j r th g q n =
+      by-send s u (message k f o j r th) (g .sized) (λ e. omega (arith, g .used, h .room))
+      (λ e. absurd (eqb-false k RESULT n (sym (kind-message k f o j r th) ∙ e))) q
 
   -- machine b's record is new, over a table with the jobs of s
   sent-node : (u : Table) (v : Machine) (k o j r th : ℕ) → Frame s u → ((i : ℕ) → jobAt u i ≡ jobAt s i) → v .alive ≡ nodeAt s (x .to) .alive → eqb k RESULT ≡ false
       → Right (send (withNode u (x .to) v) (message k (x .to) o j r th))
   sent-node u v k o j r th f e alive n =
-      let g : Frame s (withNode u (x .to) v) = frame-node s u f (x .to) v (h .message .to) alive in
+      let g : Frame s (withNode u (x .to) v) = frame-node s u f (x .to) v alive in
       sent (withNode u (x .to) v) k (x .to) o j r th g (by-frame s _ g (λ i. simp views (e i)) p) n
 
   refuses : (o : ℕ) → Right (noWork s (x .to) o)
@@ -141,7 +144,7 @@ module _ (s : Table) (x : Message) (h : Hand s x) (p : PricesBy s s (flight s)) 
   right-denied : Right (onDenied s x)
   unfolding onDenied noWork
   right-denied =
-      let f : Frame s (returned s (x .to)) = frame-returned s (x .to) (h .sized) (h .message .to) in
+      let f : Frame s (returned s (x .to)) = frame-returned s (x .to) (h .sized) in
       byBool (reserves (nodeAt s (x .to)) (x .job) (x .replica) (x .thief))
       (λ a. rw (a, onDenied) (sent (returned s (x .to)) NOWORK (x .to) (x .thief) 0 0 0 f (by-frame s _ f (unfold returned in λ i. simp (views, job-enter)) p) refl))
       (λ a. rw (a, onDenied) p)
@@ -154,7 +157,7 @@ module _ (s : Table) (x : Message) (h : Hand s x) (p : PricesBy s s (flight s)) 
 
   right-nowork : Right (onNoWork s x)
   unfolding onNoWork
-  right-nowork = by-frame s _ (frame-node s s here (x .to) (waiting (nodeAt s (x .to)) 0) (h .message .to) (alive-waiting (nodeAt s (x .to)) 0)) (λ i. simp views) p
+  right-nowork = by-frame s _ (frame-node s s here (x .to) (waiting (nodeAt s (x .to)) 0) (alive-waiting (nodeAt s (x .to)) 0)) (λ i. simp views) p
 
   right-ack : Right (onAck s x)
   unfolding onAck placed

@@ -13,7 +13,7 @@ use Rattle.table.specs.declared.Machine.{Machine}
 use Rattle.table.specs.declared.Message.{Message}
 use Rattle.table.specs.declared.Table.{Table}
 use Rattle.table.specs.Views.{noMachine, jobAt, nodeAt, toldAt, messageAt, flight, withJob, withMessages}
-use Rattle.table.specs.Messages.{pull, send}
+use Rattle.table.specs.Messages.{pull, send, RoomFor}
 use Rattle.table.specs.Parts.{reserve, release, running, waiting, message}
 use Rattle.table.proofs.Views.{Sized, job-same, job-other, node-job, told-job, told-messages, job-messages, node-messages}
 use Rattle.preservation.proofs.Facts.{Facts}
@@ -71,7 +71,7 @@ side-apart t n k l d =
     (λ m h. rw (node-messages t n k m) (d .copies m h))
     (λ j h. rw (job-messages t n k j) (d .placed j h))
 
-pub side-sends : (t : Table) (y : Message) → Sized t → t .«in_flight» < 128 → Side t (y ∷ flight t) → Side (send t y) (flight (send t y))
+pub side-sends : (t : Table) (y : Message) → Sized t → RoomFor t (y .to) → Side t (y ∷ flight t) → Side (send t y) (flight (send t y))
 side-sends t y s l =
     sends Side side-apart t y s l
     (λ d. side-list t (y ∷ flight t) (flight t ++ y ∷ []) (every-append (Sender t) (flight t) y (d .sender .1) (d .sender .0)) d)

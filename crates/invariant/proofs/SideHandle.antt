@@ -54,18 +54,18 @@ module _ (s : Table) (x : Message) (h : Hand s x) (pools : (m j : ℕ) → m < 1
     stays k e = side-node s u (x ∷ flight s) k (x .to) v (f .told) jobs own other c e d
 
     sent : (y : Message) → Sender s y → Sides (send u y)
-    sent y e = side-sends u y (f .sized) (omega (arith, f .used, h .room)) (rw (f .flight) (stays (y ∷ flight s) (e, d .sender .1)))
+    sent y e = side-sends u y (f .sized) (λ e. omega (arith, f .used, h .room)) (rw (f .flight) (stays (y ∷ flight s) (e, d .sender .1)))
 
   -- the same where no pool changed
   module _ (v : Machine) (alive : v .alive ≡ nodeAt s (x .to) .alive) (c : Copies s (x .to) v) where
     sent-own : (y : Message) → Sender s y → Sides (send (withNode s (x .to) v) y)
     sent-own =
-        sent (withNode s (x .to) v) v (frame-node s s here (x .to) v (h .message .to) alive) (λ j. simp views)
+        sent (withNode s (x .to) v) v (frame-node s s here (x .to) v alive) (λ j. simp views)
         (node-same s (h .sized) (x .to) v (h .message .to)) (λ m e. node-other s (x .to) m v e) c
 
   sent-back : (k o j r : ℕ) → isAnswer k ≡ false → o < 16 → Sides (send (returned s (x .to)) (message k (x .to) o j r 0))
   sent-back k o j r n l =
-      sent (returned s (x .to)) (release (nodeAt s (x .to))) (frame-returned s (x .to) (h .sized) (h .message .to)) (unfold returned in λ i. simp (views, job-enter))
+      sent (returned s (x .to)) (release (nodeAt s (x .to))) (frame-returned s (x .to) (h .sized)) (unfold returned in λ i. simp (views, job-enter))
       (node-returned s (x .to) (h .sized) (h .message .to)) (λ m e. node-returned-other s (x .to) m e)
       (copies-release s (x .to) (nodeAt s (x .to)) (own-copies .running)) (message k (x .to) o j r 0) (from-own k o j r 0 n l)
 
@@ -80,7 +80,7 @@ module _ (s : Table) (x : Message) (h : Hand s x) (pools : (m j : ℕ) → m < 1
   unfolding noWork
   refuses =
       let y = message NOWORK (x .to) (x .from) 0 0 0 in
-      side-sends s y (h .sized) (h .room)
+      side-sends s y (h .sized) (λ e. h .room)
       (side-list s (x ∷ flight s) (y ∷ flight s) (from-own NOWORK (x .from) 0 0 0 (unfold isAnswer in refl) (h .message .from), d .sender .1) d)
 
   grants : (j : ℕ) → j < 64 → Sides (grant s (x .to) (x .from) j)
@@ -91,7 +91,7 @@ module _ (s : Table) (x : Message) (h : Hand s x) (pools : (m j : ℕ) → m < 1
       let v = reserve (nodeAt s b) j r (x .from) in
       let p = withPool s b j 0 in
       let f : Frame s p = frame-pool s s here b j 0 in
-      sent (withNode p b v) v (frame-node s p f b v (h .message .to) (alive-reserve (nodeAt s b) j r (x .from))) (λ i. simp views)
+      sent (withNode p b v) v (frame-node s p f b v (alive-reserve (nodeAt s b) j r (x .from))) (λ i. simp views)
       (node-same p (f .sized) b v (h .message .to)) (λ m e. node-other p b m v e ∙ node-pool s b j 0 m)
       (copies-reserve s b (nodeAt s b) j r (x .from) (pools b j (h .message .to) l) (d .sender .0 .untold) own-copies)
       (message REQ b 0 j r (x .from)) (from-own REQ 0 j r (x .from) (unfold isAnswer in refl) (omega arith))
@@ -115,7 +115,7 @@ module _ (s : Table) (x : Message) (h : Hand s x) (pools : (m j : ℕ) → m < 1
   unfolding reply
   side-reply k =
       let y = message k 0 (x .from) (x .job) (x .replica) (x .thief) in
-      side-sends s y (h .sized) (h .room) (side-list s (x ∷ flight s) (y ∷ flight s) (from-root k, d .sender .1) d)
+      side-sends s y (h .sized) (λ e. h .room) (side-list s (x ∷ flight s) (y ∷ flight s) (from-root k, d .sender .1) d)
 
   -- the job moves, between machines of which the root was not told
   side-moves : toldAt s 0 (x .from) ≡ 0 → toldAt s 0 (x .thief) ≡ 0 → Sides (reply (withJob s (x .job) (moved (jobAt s (x .job)) (x .from) (x .thief))) x AUTH)
@@ -124,7 +124,7 @@ module _ (s : Table) (x : Message) (h : Hand s x) (pools : (m j : ℕ) → m < 1
       let v = moved (jobAt s (x .job)) (x .from) (x .thief) in
       let y = message AUTH 0 (x .from) (x .job) (x .replica) (x .thief) in
       let f : Frame s (withJob s (x .job) v) = frame-job s s here (x .job) v in
-      side-sends (withJob s (x .job) v) y (f .sized) (omega (arith, f .used, h .room))
+      side-sends (withJob s (x .job) v) y (f .sized) (λ e. omega (arith, f .used, h .room))
       (rw (f .flight) (side-job s (x ∷ flight s) (y ∷ flight s) (x .job) v (h .sized) (h .message .job) (omega arith) (record { holder = λ i. e; thief = λ i n. g }) (from-root AUTH, d .sender .1) d))
 
   -- what came to the root came from a machine of which it was not told
@@ -176,7 +176,7 @@ module _ (s : Table) (x : Message) (h : Hand s x) (pools : (m j : ℕ) → m < 1
       let v = waiting (nodeAt s b) 0 in
       let p = enter s b (x .job) (x .replica) in
       let f : Frame s p = frame-enter s s here b (x .job) (x .replica) in
-      sent (withNode p b v) v (frame-node s p f b v (h .message .to) (alive-waiting (nodeAt s b) 0)) (λ j. simp (views, job-enter))
+      sent (withNode p b v) v (frame-node s p f b v (alive-waiting (nodeAt s b) 0)) (λ j. simp (views, job-enter))
       (node-same p (f .sized) b v (h .message .to)) (λ m e. node-other p b m v e ∙ node-enter s b (x .job) (x .replica) m)
       (copies-waiting s b (nodeAt s b) 0 own-copies)
       (message ACK b 0 (x .job) (x .replica) 0) (from-own ACK 0 (x .job) (x .replica) 0 (unfold isAnswer in refl) (omega arith))
@@ -186,7 +186,7 @@ module _ (s : Table) (x : Message) (h : Hand s x) (pools : (m j : ℕ) → m < 1
   side-nowork =
       let b = x .to in
       let v = waiting (nodeAt s b) 0 in
-      let f : Frame s (withNode s b v) = frame-node s s here b v (h .message .to) (alive-waiting (nodeAt s b) 0) in
+      let f : Frame s (withNode s b v) = frame-node s s here b v (alive-waiting (nodeAt s b) 0) in
       rw (f .flight) (stays (withNode s b v) v f (λ j. simp views) (node-same s (h .sized) b v (h .message .to)) (λ m e. node-other s b m v e)
       (copies-waiting s b (nodeAt s b) 0 own-copies) (flight s) (d .sender .1))
 

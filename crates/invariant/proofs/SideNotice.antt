@@ -20,9 +20,10 @@ use Rattle.table.specs.Views.{jobAt, nodeAt, toldAt, flight}
 use Rattle.table.specs.Messages.{notFrom}
 use Rattle.table.specs.Parts.{opened}
 use Rattle.notice.specs.Notice.{lost, quieted, reissue, noticed}
+use Rattle.notice.proofs.Cases.{Noticing}
 use Rattle.preservation.proofs.Facts.{MessageFacts}
 use Rattle.preservation.proofs.Sizes.{sized-quieted}
-use Rattle.invariant.proofs.State.{Side, Sender, Copies, Placed, Whole}
+use Rattle.invariant.proofs.State.{Side, Sender, Copies, Placed, Whole, machine-16}
 use Rattle.invariant.proofs.SideFrame.{copies-release, copies-waiting, living-untold}
 use Rattle.invariant.proofs.Quieted.{reclaimedNode, unwaitedNode, quietedNode, flight-quieted, told-quieted-other, told-quieted-others, node-quieted, node-quieted-other}
 use Rattle.notice.proofs.Parts.{job-quieted}
@@ -112,7 +113,8 @@ module _ (t : Table) (a b : ℕ) (w : Whole t) (al : a < 16) (bl : b < 16) (gone
     placed-opened : (r : ℕ) → Placed u (opened r)
     unfolding opened
     placed-opened r = record {
-      holder = λ e. told-same 0 0 (omega arith) (λ p q. gone (ap (λ (i : ℕ). nodeAt t i .alive) (sym q) ∙ w .facts .root)) ∙ living-untold t (w .facts) 0 0 (omega arith) (omega arith) (w .facts .root);
+      holder = λ e. told-same 0 0 (omega arith) (λ p q. gone (ap (λ (i : ℕ). nodeAt t i .alive) (sym q) ∙ w .facts .root))
+          ∙ living-untold t (w .facts) 0 0 (omega arith) (omega arith) (w .facts .root);
       thief = λ e (f : _≡_ {A = ℕ} 0 1). absurd (omega arith);
     }
 
@@ -154,10 +156,12 @@ module _ (t : Table) (a b : ℕ) (w : Whole t) (al : a < 16) (bl : b < 16) (gone
         placed = λ j l. rw (jobs j l) (placed-reissued u (told-reissue q b) grown (node-reissue q b) (jobAt t j) (w .facts .job j l .holder) (w .facts .job j l .thief) (w .side .placed j l));
       }
 
-  pub side-noticed : Side (noticed t a b) (flight (noticed t a b))
-  unfolding noticed
-  side-noticed =
-      let q = quieted t a b in
-      byBool (eqb a 0)
-      (λ e. rw (e, noticed) (rw (flight-reissue q b, flight-quieted t a b) side-reissued))
-      (λ e. rw (e, noticed) (rw (flight-quieted t a b) (side-quieted (eqb-false a 0 e))))
+pub side-noticed : (t : Table) → Whole t → (a b : ℕ) → Noticing t a b → Side (noticed t a b) (flight (noticed t a b))
+unfolding noticed
+side-noticed t w a b n =
+    let q = quieted t a b in
+    let al = machine-16 t w a (n .machine) in
+    let bl = machine-16 t w b (n .named) in
+    byBool (eqb a 0)
+    (λ e. rw (e, noticed) (rw (flight-reissue q b, flight-quieted t a b) (side-reissued t a b w al bl (n .dead))))
+    (λ e. rw (e, noticed) (rw (flight-quieted t a b) (side-quieted t a b w al bl (n .dead) (eqb-false a 0 e))))

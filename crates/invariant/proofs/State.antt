@@ -8,6 +8,7 @@ use mathlib.Core.Logic.{_≢_}
 use mathlib.Core.Bool.{Bool, true, not, cond, _&&_, _||_}
 use mathlib.Core.List.{List}
 use Prim.Native.Nat.{ℕ, _+_, _≤_, _<_}
+use native.Mathlib.Omega.{arith}
 use lib.Dec.{eqb, leb}
 use Rattle.pricer.specs.Price.{priceBits}
 use Rattle.table.specs.declared.Job.{Job}
@@ -18,8 +19,9 @@ use Rattle.table.specs.Views.{bondAt, jobAt, nodeAt, poolAt, toldAt, flight}
 use Rattle.table.specs.Parts.{copyIs, reserves, REQ, AUTH, OBSOLETE, SCHEDULE, ACK, RESULT}
 use Rattle.table.proofs.Views.{Sized}
 use Rattle.lists.proofs.Count.{ind, count, Every}
-use Rattle.preservation.proofs.Ok.{Ok}
+use Rattle.preservation.proofs.Ok.{Ok, Valid}
 use Rattle.preservation.proofs.Facts.{Facts, MessageFacts}
+use Rattle.preservation.proofs.Passed.{facts}
 
 -- ---- the messages that the clauses count
 
@@ -156,6 +158,20 @@ pub record Whole (t : Table) : Type 0 where
   pub trip : Trip t (flight t)
   pub side : Side t (flight t)
   pub prices : Prices t (flight t)
+
+-- the plain facts follow from check 9
+pub whole : (t : Table) → Valid t → Conserved t (flight t) → Trip t (flight t) → Side t (flight t) → Prices t (flight t) → Whole t
+whole t v c r d p = record { sized = v .sized; ok = v .ok; facts = facts t (v .sized) (v .ok); conserved = c; trip = r; side = d; prices = p }
+
+module _ (t : Table) (w : Whole t) where
+  pub valid : Valid t
+  valid = record { sized = w .sized; ok = w .ok }
+
+  pub machine-16 : (a : ℕ) → a < t .machines → a < 16
+  machine-16 a l = omega (arith, w .facts .machines-most)
+
+  pub entry-64 : (a : ℕ) → a < t .entries → a < 64
+  entry-64 a l = omega (arith, w .facts .entries-most)
 
 -- a message x that was taken off, and the table s that is left for its handler
 pub record Hand (s : Table) (x : Message) : Type 0 where

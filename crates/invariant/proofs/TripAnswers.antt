@@ -59,7 +59,7 @@ module _ (s : Table) (x : Message) (h : Hand s x) (c : Conserved s (x ∷ flight
   Matches v = reserves (nodeAt s (x .to)) (x .job) (x .replica) (x .thief) ≡ v
 
   released : Frame s (withNode s (x .to) (release (nodeAt s (x .to))))
-  released = frame-node s s (frame-refl s (h .sized)) (x .to) (release (nodeAt s (x .to))) (h .message .to) (alive-release (nodeAt s (x .to)))
+  released = frame-node s s (frame-refl s (h .sized)) (x .to) (release (nodeAt s (x .to))) (alive-release (nodeAt s (x .to)))
 
   -- ---- AUTH: the copy is on its way
   auths : x .kind ≡ AUTH → Matches true → Trips (send (withNode s (x .to) (release (nodeAt s (x .to)))) (message SCHEDULE (x .to) (x .thief) (x .job) (x .replica) 0))
@@ -74,10 +74,11 @@ module _ (s : Table) (x : Message) (h : Hand s x) (c : Conserved s (x ∷ flight
       (λ j a e. ty j (jobAt s j .replica) ∙ sym (tx j (jobAt s j .replica)))
       (λ j p a e o f.
       let r = jobAt s j .replica in
-      omega (arith, has-release s (x .to) p j r n (h .sized) (h .message .to) refl (reserves-same n (x .job) (x .replica) (x .thief) j r m ∙ sym (tx j r) ∙ f), ap ind (result-other AUTH j p x k3 refl)))
+      omega (arith, has-release s (x .to) p j r n refl (reserves-same n (x .job) (x .replica) (x .thief) j r m ∙ sym (tx j r) ∙ f),
+      ap ind (result-other AUTH j p x k3 refl)))
       (λ j p a e o f. absurd (true≢false (sym f ∙ ack-other SCHEDULE j (jobAt s j .replica) p y (unfold message in refl) refl)))
       g in
-      trip-sends s u y released (h .room) (h .facts .root) (unfold message in λ e. absurd (false≢true e)) t
+      trip-sends s u y released (λ e. h .room) (h .facts .root) (unfold message in λ e. absurd (false≢true e)) t
 
   -- no match: the thief is dead
   auth-idle : x .kind ≡ AUTH → Matches false → Trips s
@@ -108,7 +109,7 @@ module _ (s : Table) (x : Message) (h : Hand s x) (c : Conserved s (x ∷ flight
       let b = x .to in
       let u = returned s b in
       let y = message NOWORK b (x .thief) 0 0 0 in
-      let f : Frame s u = frame-returned s b (h .sized) (h .message .to) in
+      let f : Frame s u = frame-returned s b (h .sized) in
       let hj : nodeAt s b .«reserved_job» < 64 = h .facts .machine b (h .message .to) .reserved-job in
       let hr = cap b (h .message .to) in
       let t : Trip u (y ∷ flight s) =
@@ -116,7 +117,7 @@ module _ (s : Table) (x : Message) (h : Hand s x) (c : Conserved s (x ∷ flight
       (pools-returned s b (h .sized) (h .message .to) hj hr (g .pools))
       (known-plain s y NOWORK (unfold message in refl) (unfold isTrip in refl) refl (unfold message in omega arith))
       (λ j p a e o. omega (arith, has-returned s b (h .sized) (h .message .to) hj hr (g .pools) j p a)) g in
-      trip-sends s u y f (h .room) (h .facts .root) (unfold message in λ e. absurd (false≢true e)) t
+      trip-sends s u y f (λ e. h .room) (h .facts .root) (unfold message in λ e. absurd (false≢true e)) t
 
   pub trip-denied : x .kind ≡ DENIED → Trips (onDenied s x)
   unfolding onDenied
@@ -144,9 +145,9 @@ module _ (s : Table) (x : Message) (h : Hand s x) (c : Conserved s (x ∷ flight
       let er : x .replica ≡ r = eqb-true _ _ (and-right (eqb (x .job) j) (eqb (x .replica) r) es) in
       let lt : x .replica < jobAt s j .replica = rw ej at (g .known .0 .old k5 (rw ej o)) in
       absurd (omega arith))
-      (λ f. omega (arith, has-release s (x .to) p j r n (h .sized) (h .message .to) refl f)))
+      (λ f. omega (arith, has-release s (x .to) p j r n refl f)))
       g in
-      trip-sends s u y released (h .room) (h .facts .root) (unfold message in λ e. absurd (false≢true e)) t
+      trip-sends s u y released (λ e. h .room) (h .facts .root) (unfold message in λ e. absurd (false≢true e)) t
 
   pub trip-obsolete : x .kind ≡ OBSOLETE → Trips (onObsolete s x)
   unfolding onObsolete

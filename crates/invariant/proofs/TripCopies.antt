@@ -11,8 +11,7 @@ use Rattle.table.specs.declared.Machine.{Machine}
 use Rattle.table.specs.declared.Table.{Table}
 use Rattle.table.specs.Views.{jobAt, nodeAt, poolAt, withNode, withPool, enter}
 use Rattle.table.specs.Parts.{reserve, release, running, waiting, returned}
-use Rattle.table.proofs.Views.{Sized, sized-pool, node-same, node-other, node-pool, pool-node, pool-same, pool-other-job, pool-other-node, alive-node}
-use Rattle.preservation.proofs.Sizes.{sized-enter}
+use Rattle.table.proofs.Views.{Sized, sized-pool, node-same, node-other, node-pool, pool-node, pool-same, pool-other-job, pool-other-node, alive-node, part-node}
 use Rattle.lists.proofs.Cases.{byBool, byEq, and-left, and-right, and-false}
 use Rattle.lists.proofs.Count.{ind}
 use Rattle.invariant.proofs.Frame.{node-enter}
@@ -36,7 +35,7 @@ pub has-node : (t : Table) (b : ℕ) (v : Machine) (j r : ℕ) → Sized t → b
     → has (withNode t b v) j r b + (ind (reservesJob (nodeAt t b) j r) + ind (runsJob (nodeAt t b) j r)) ≡ has t j r b + (ind (reservesJob v j r) + ind (runsJob v j r))
 unfolding has
 has-node t b v j r z h e =
-    let d : dead (withNode t b v) b ≡ dead t b = dead-same t (withNode t b v) b (alive-node t b v z h e b) in
+    let d : dead (withNode t b v) b ≡ dead t b = dead-same t (withNode t b v) b (alive-node t b v e b) in
     let n : nodeAt (withNode t b v) b ≡ v = node-same t z b v h in
     let p : poolAt (withNode t b v) b j ≡ poolAt t b j = pool-node t b v b j in
     rw (d, n, p) (omega arith)
@@ -46,24 +45,25 @@ unfolding has dead
 has-node-other t b p v j r e = simp (node-other t b p v e, pool-node)
 
 -- the new record has what the old one had
-pub has-record : (t : Table) (b p : ℕ) (v : Machine) (j r : ℕ) → Sized t → b < 16 → v .alive ≡ nodeAt t b .alive
+has-record : (t : Table) (b p : ℕ) (v : Machine) (j r : ℕ) → v .alive ≡ nodeAt t b .alive
     → ind (reservesJob v j r) + ind (runsJob v j r) ≡ ind (reservesJob (nodeAt t b) j r) + ind (runsJob (nodeAt t b) j r) → has (withNode t b v) j r p ≡ has t j r p
-has-record t b p v j r z h e s =
-    byEq p b
-    (λ d. rw d (omega (arith, has-node t b v j r z h e)))
-    (λ d. has-node-other t b p v j r d)
+unfolding has
+has-record t b p v j r e s =
+    let d = dead-same t (withNode t b v) p (alive-node t b v e p) in
+    rw (d, pool-node t b v p j) (omega (arith, part-node (λ n. ind (reservesJob n j r) + ind (runsJob n j r)) t b v s p))
 
-pub has-release : (t : Table) (b p j r : ℕ) (n : Machine) → Sized t → b < 16 → nodeAt t b ≡ n → reservesJob n j r ≡ false → has (withNode t b (release n)) j r p ≡ has t j r p
-has-release t b p j r n z h e f =
+pub has-release : (t : Table) (b p j r : ℕ) (n : Machine) → nodeAt t b ≡ n → reservesJob n j r ≡ false
+    → has (withNode t b (release n)) j r p ≡ has t j r p
+has-release t b p j r n e f =
     let res : reservesJob (release n) j r ≡ false = unfold reservesJob release in refl in
     let run : runsJob (release n) j r ≡ runsJob n j r = unfold runsJob release in refl in
-    has-record t b p (release n) j r z h (rw e (alive-release n)) (rw e (omega (arith, ap ind res, ap ind run, ap ind f)))
+    has-record t b p (release n) j r (rw e (alive-release n)) (rw e (omega (arith, ap ind res, ap ind run, ap ind f)))
 
-pub has-waiting : (t : Table) (b p j r w : ℕ) (n : Machine) → Sized t → b < 16 → nodeAt t b ≡ n → has (withNode t b (waiting n w)) j r p ≡ has t j r p
-has-waiting t b p j r w n z h e =
+pub has-waiting : (t : Table) (b p j r w : ℕ) (n : Machine) → nodeAt t b ≡ n → has (withNode t b (waiting n w)) j r p ≡ has t j r p
+has-waiting t b p j r w n e =
     let res : reservesJob (waiting n w) j r ≡ reservesJob n j r = unfold reservesJob waiting in refl in
     let run : runsJob (waiting n w) j r ≡ runsJob n j r = unfold runsJob waiting in refl in
-    has-record t b p (waiting n w) j r z h (rw e (alive-waiting n w)) (rw e (omega (arith, ap ind res, ap ind run)))
+    has-record t b p (waiting n w) j r (rw e (alive-waiting n w)) (rw e (omega (arith, ap ind res, ap ind run)))
 
 -- ---- a place of a pool
 
@@ -162,7 +162,7 @@ module _ (t : Table) (a : ℕ) (z : Sized t) (al : a < 16)
       let pu : poolAt u p j ≡ r = pool-node q a (release n) p j ∙ ap (λ (m : ℕ). poolAt q m j) v ∙ ap (poolAt q a) (sym (es .0)) ∙ pq ∙ es .1 in
       omega (arith, has-by-pool u j r p pu))
       (λ v. omega (arith, has-node-other q a p (release n) j r v)))
-      (λ f. omega (arith, has-release q a p j r n (sized-enter t a k s z) al (node-enter t a k s a) f))
+      (λ f. omega (arith, has-release q a p j r n (node-enter t a k s a) f))
 
 -- ---- a copy goes from the pool of a machine to its record
 

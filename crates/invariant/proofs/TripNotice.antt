@@ -15,16 +15,17 @@ use Rattle.table.specs.declared.Table.{Table}
 use Rattle.table.specs.Views.{jobAt, nodeAt, flight, withJob, withNode}
 use Rattle.table.specs.Messages.{sift, notFrom}
 use Rattle.table.specs.Parts.{opened, waiting, returned}
-use Rattle.table.proofs.Views.{Sized, views, sized-job, job-other, pool-node}
+use Rattle.table.proofs.Views.{Sized, views, sized-job, job-other, pool-node, alive-node}
 use Rattle.notice.specs.Notice.{informed, unwaited, reclaimed, quieted, lost, reissueOne, reissue, noticed}
-use Rattle.preservation.proofs.Sizes.{sized-enter, sized-informed, sized-reclaimed, sized-quieted}
+use Rattle.notice.proofs.Cases.{Noticing}
+use Rattle.preservation.proofs.Sizes.{sized-enter, sized-informed, sized-quieted}
 use Rattle.lists.specs.Scan.{filter, upTo}
 use Rattle.lists.proofs.Cases.{byBool}
-use Rattle.invariant.proofs.Frame.{Frame, frame-refl, frame-node, frame-returned, job-enter, entered}
+use Rattle.invariant.proofs.Frame.{frame-returned, job-enter, entered}
 use Rattle.invariant.proofs.About.{alive-waiting}
 use Rattle.invariant.proofs.Quieted.{flight-quieted}
 use Rattle.invariant.proofs.Reissued.{flight-reissue}
-use Rattle.invariant.proofs.State.{Trip, Whole}
+use Rattle.invariant.proofs.State.{Trip, Whole, machine-16}
 use Rattle.invariant.proofs.TripLaws.{dead-is, Places, places}
 use Rattle.invariant.proofs.TripSend.{trip-same, trip-table}
 use Rattle.invariant.proofs.TripCopies.{has-waiting, has-returned, pools-returned}
@@ -39,20 +40,21 @@ unfolding reclaimed
 trip-reclaimed t a b l z al ps hj hr i =
     byBool (not (eqb (nodeAt t a .«reserved_replica») 0) && eqb (nodeAt t a .«reserved_thief») b)
     (λ e. rw (e, reclaimed)
-    (trip-table t (returned t a) l ps (λ j. unfold returned in simp (views, entered)) (frame-returned t a z al .alive) (pools-returned t a z al hj hr (i .pools))
+    (trip-table t (returned t a) l ps (λ j. unfold returned in simp (views, entered)) (frame-returned t a z .alive)
+    (pools-returned t a z al hj hr (i .pools))
     (λ j p jl pl o. has-returned t a z al hj hr (i .pools) j p jl) i))
     (λ e. rw (e, reclaimed) i)
 
 -- ---- a wait ends
-trip-unwaited : (t : Table) (a b : ℕ) (l : List Message) → Sized t → a < 16 → Places t → Trip t l → Trip (unwaited t a b) l
+trip-unwaited : (t : Table) (a b : ℕ) (l : List Message) → Places t → Trip t l → Trip (unwaited t a b) l
 unfolding unwaited
-trip-unwaited t a b l z al ps i =
+trip-unwaited t a b l ps i =
     let n = nodeAt t a in
-    let f : Frame t (withNode t a (waiting n 0)) = frame-node t t (frame-refl t z) a (waiting n 0) al (alive-waiting n 0) in
     byBool (eqb (n .waits) (b + 1))
     (λ e. rw (e, unwaited)
-    (trip-table t (withNode t a (waiting n 0)) l ps (λ j. simp views) (f .alive) (λ m j ml jl. rw pool-node (i .pools m j ml jl))
-    (λ j p jl pl o. omega (arith, has-waiting t a p j (jobAt t j .replica) 0 n z al refl)) i))
+    (trip-table t (withNode t a (waiting n 0)) l ps (λ j. simp views) (alive-node t a (waiting n 0) (alive-waiting n 0))
+    (λ m j ml jl. rw pool-node (i .pools m j ml jl))
+    (λ j p jl pl o. omega (arith, has-waiting t a p j (jobAt t j .replica) 0 n refl)) i))
     (λ e. rw (e, unwaited) i)
 
 -- ---- what every machine does that is told
@@ -79,10 +81,12 @@ module _ (t : Table) (a b : ℕ) (w : Whole t) (al : a < 16) (gone : nodeAt t b 
       let ps : Places t = places t (w .facts) in
       let pi : Places i = λ j jl. rw (ji j) (ps j jl) in
       let pr : Places r = λ j jl. rw (job-reclaimed i a b j) (pi j jl) in
-      let dropped : Trip t l = trip-without t t b (notFrom b a) w not-root (λ j. refl) (dead-is t b gone) (λ m e. refl) (λ m j jl e. refl) (λ j bl jl. w .trip .pools b j bl jl) (λ x f o. not-from b a x f) in
+      let dropped : Trip t l =
+      trip-without t t b (notFrom b a) w not-root (λ j. refl) (dead-is t b gone)
+      (λ m e. refl) (λ m j jl e. refl) (λ j bl jl. w .trip .pools b j bl jl) (λ x f o. not-from b a x f) in
       let told : Trip i l = trip-same t i ji (λ k. simp views) (λ m j. simp views) l dropped in
       let back : Trip r l = trip-reclaimed i a b l iz al pi (rw ni (w .facts .machine a al .reserved-job)) (rw ni (rw (ji (nodeAt t a .«reserved_job»)) (w .side .copies a al .reserved))) told in
-      trip-unwaited r a b l (sized-reclaimed i iz a b) al pr back
+      trip-unwaited r a b l pr back
 
 -- ---- the root issues the lost jobs again, one after the other; t is the table before the first
 module _ (t : Table) (b : ℕ) (z : Sized t) (l : List Message) (g : Trip t l) where
@@ -117,11 +121,11 @@ module _ (t : Table) (b : ℕ) (z : Sized t) (l : List Message) (g : Trip t l) w
   unfolding reissue
   trip-reissue = all-turns 64 (omega arith) .trip
 
-pub trip-noticed : (t : Table) (a b : ℕ) → Whole t → a < 16 → nodeAt t b .alive ≢ 1 → Trips (noticed t a b)
+pub trip-noticed : (t : Table) → Whole t → (a b : ℕ) → Noticing t a b → Trips (noticed t a b)
 unfolding noticed
-trip-noticed t a b w al gone =
+trip-noticed t w a b n =
     let q = quieted t a b in
-    let g : Trip q (flight q) = rw (flight-quieted t a b) (trip-quieted t a b w al gone) in
+    let g : Trip q (flight q) = rw (flight-quieted t a b) (trip-quieted t a b w (machine-16 t w a (n .machine)) (n .dead)) in
     byBool (eqb a 0)
     (λ e. rw (e, noticed) (rw (flight-reissue q b) (trip-reissue q b (sized-quieted t (w .sized) a b) (flight q) g)))
     (λ e. rw (e, noticed) g)

@@ -157,7 +157,7 @@ module _ (s : Table) (x : Message) (h : Hand s x) (g : Trip s (x ∷ flight s)) 
   answers c k2 tc ac rc qc ky =
       let y = message c 0 (x .from) (x .job) (x .replica) (x .thief) in
       let ey : y .kind ≡ c = unfold message in refl in
-      trip-sends s s y (frame-refl s (h .sized)) (h .room) (h .facts .root) (rw (ey, qc, ac, rc) (λ e. absurd (false≢true e)))
+      trip-sends s s y (frame-refl s (h .sized)) (λ e. h .room) (h .facts .root) (rw (ey, qc, ac, rc) (λ e. absurd (false≢true e)))
       (trip-swap s s x y (flight s) REQ c k2 ey (unfold isTrip in refl) tc refl ac (places s (h .facts)) (λ j. refl) (λ k. refl) (g .pools) ky (λ j p a b o. omega arith) g)
 
   -- the job moves, and AUTH is on its way
@@ -190,7 +190,7 @@ module _ (s : Table) (x : Message) (h : Hand s x) (g : Trip s (x ∷ flight s)) 
       (λ o c. omega (arith, ap ind my))
       (λ p a o c. absurd (omega (arith, none o, acks-trips i r p l, ap ind (ack-other AUTH i r p y ey refl))))
       g in
-      trip-sends s u y (frame-job s s (frame-refl s (h .sized)) i v) (h .room) (h .facts .root) (rw ey (λ e. absurd (false≢true e))) t
+      trip-sends s u y (frame-job s s (frame-refl s (h .sized)) i v) (λ e. h .room) (h .facts .root) (rw ey (λ e. absurd (false≢true e))) t
 
   pub trip-req : x .kind ≡ REQ → Trips (onReq s x)
   unfolding onReq

@@ -1,7 +1,7 @@
 -- Clauses R, O, N, H and S through FISH, SCHEDULE and NOWORK: a copy leaves a pool, or enters one.
 -- Assumes nothing.
 use mathlib.Core.Path.{_≡_, refl, sym, ap, _∙_}
-use mathlib.Core.Bool.{true, false, not, _&&_, false≢true}
+use mathlib.Core.Bool.{true, not, _&&_, false≢true}
 use mathlib.Core.List.{_∷_}
 use Prim.Native.Nat.{ℕ, _≤_, _<_}
 use native.Mathlib.Omega.{arith}
@@ -12,10 +12,9 @@ use Rattle.table.specs.declared.Table.{Table}
 use Rattle.table.specs.Views.{jobAt, nodeAt, poolAt, flight, withNode, withPool, enter}
 use Rattle.table.specs.Messages.{lowest}
 use Rattle.table.specs.Parts.{reserve, waiting, message, FISH, REQ, SCHEDULE, ACK, NOWORK}
-use Rattle.table.proofs.Views.{Sized, views, pool-node, flight-node}
+use Rattle.table.proofs.Views.{views, pool-node, flight-node}
 use Rattle.victim_handlers.specs.VictimHandlers.{noWork, grant, onFish}
 use Rattle.thief_handlers.specs.ThiefHandlers.{onSchedule, onNoWork}
-use Rattle.preservation.proofs.Sizes.{sized-enter}
 use Rattle.lists.proofs.Cases.{byBool, and-left, and-right}
 use Rattle.lists.proofs.Count.{ind}
 use Rattle.invariant.proofs.Frame.{Frame, frame-refl, frame-node, frame-pool, frame-enter, node-enter, entered}
@@ -56,7 +55,7 @@ module _ (s : Table) (x : Message) (h : Hand s x) (g : Trip s (x ∷ flight s)) 
       let y = message REQ b 0 i r₀ (x .from) in
       let w = h .message in
       let va : v .alive ≡ n .alive = alive-reserve n i r₀ (x .from) in
-      let f : Frame s u = frame-node s q (frame-pool s s (frame-refl s (h .sized)) b i 0) b v (w .to) va in
+      let f : Frame s u = frame-node s q (frame-pool s s (frame-refl s (h .sized)) b i 0) b v va in
       let t : Trip u (y ∷ flight s) =
       trip-swap s u x y (flight s) FISH REQ k1 (unfold message in refl) (unfold isTrip in refl) (unfold isTrip in refl) refl refl (places s (h .facts)) (λ j. simp views) (f .alive)
       (λ m j a c. rw pool-node (pools-emptied s b i (h .sized) (w .to) il (g .pools) m j a c))
@@ -66,13 +65,13 @@ module _ (s : Table) (x : Message) (h : Hand s x) (g : Trip s (x ∷ flight s)) 
       let r1 : 1 ≤ r = h .facts .job j a .some (λ e. omega arith) in
       omega (arith, has-taken s b i v j r p (h .sized) (w .to) il a r1 va (reserves-taken n i r₀ (x .from) j r r1 (reservesJob-none n j r free))))
       g in
-      trip-sends s u y f (h .room) (h .facts .root) (unfold message in λ e. refl) t
+      trip-sends s u y f (λ e. h .room) (h .facts .root) (unfold message in λ e. refl) t
 
   fish-none : x .kind ≡ FISH → Trips (noWork s (x .to) (x .from))
   unfolding noWork
   fish-none k1 =
       let y = message NOWORK (x .to) (x .from) 0 0 0 in
-      trip-sends s s y (frame-refl s (h .sized)) (h .room) (h .facts .root) (unfold message in λ e. absurd (false≢true e))
+      trip-sends s s y (frame-refl s (h .sized)) (λ e. h .room) (h .facts .root) (unfold message in λ e. absurd (false≢true e))
       (trip-swap s s x y (flight s) FISH NOWORK k1 (unfold message in refl) (unfold isTrip in refl) (unfold isTrip in refl) refl refl (places s (h .facts)) (λ j. refl) (λ k. refl) (g .pools)
       (known-plain s y NOWORK (unfold message in refl) (unfold isTrip in refl) refl (unfold message in omega arith)) (λ j p a c o. omega arith) g)
 
@@ -96,8 +95,7 @@ module _ (s : Table) (x : Message) (h : Hand s x) (g : Trip s (x ∷ flight s)) 
       let y = message ACK b 0 (x .job) (x .replica) 0 in
       let w = h .message in
       let k = g .known .0 in
-      let qz : Sized q = sized-enter s b (x .job) (x .replica) (h .sized) in
-      let f : Frame s u = frame-node s q (frame-enter s s (frame-refl s (h .sized)) b (x .job) (x .replica)) b (waiting n 0) (w .to) (alive-waiting n 0) in
+      let f : Frame s u = frame-node s q (frame-enter s s (frame-refl s (h .sized)) b (x .job) (x .replica)) b (waiting n 0) (alive-waiting n 0) in
       let tx : (j r : ℕ) → trip j r x ≡ eqb (x .job) j && eqb (x .replica) r = λ j r. unfold trip isTrip in rw k6 in
       let ty : (j r : ℕ) → trip j r y ≡ eqb (x .job) j && eqb (x .replica) r = λ j r. unfold trip isTrip message in refl in
       let t : Trip u (y ∷ flight s) =
@@ -107,7 +105,8 @@ module _ (s : Table) (x : Message) (h : Hand s x) (g : Trip s (x ∷ flight s)) 
       (λ j a c. ty j (jobAt s j .replica) ∙ sym (tx j (jobAt s j .replica)))
       (λ j p a c o e.
       let r = jobAt s j .replica in
-      omega (arith, has-enter s b (x .job) (x .replica) j r p (h .sized) (w .to) (w .job) a (λ f. rw f (k .cap)), has-waiting q b p j r 0 n qz (w .to) (node-enter s b (x .job) (x .replica) b), ap ind (result-other SCHEDULE j p x k6 refl)))
+      omega (arith, has-enter s b (x .job) (x .replica) j r p (h .sized) (w .to) (w .job) a (λ f. rw f (k .cap)),
+      has-waiting q b p j r 0 n (node-enter s b (x .job) (x .replica) b), ap ind (result-other SCHEDULE j p x k6 refl)))
       (λ j p a c o e.
       let r = jobAt s j .replica in
       let es = ack-eqs j r p b (x .job) (x .replica) e in
@@ -115,7 +114,7 @@ module _ (s : Table) (x : Message) (h : Hand s x) (g : Trip s (x ∷ flight s)) 
       let pu : poolAt u p j ≡ r = pool-node q b (waiting n 0) p j ∙ ap (λ (m : ℕ). poolAt q m j) (sym (es .0)) ∙ ap (poolAt q b) (sym (es .1)) ∙ enter-pool s b (x .job) (x .replica) (h .sized) (w .to) (w .job) po ∙ es .2 in
       has-by-pool u j r p pu)
       g in
-      trip-sends s u y f (h .room) (h .facts .root) (unfold message in λ e. refl) t
+      trip-sends s u y f (λ e. h .room) (h .facts .root) (unfold message in λ e. refl) t
 
   -- ---- NOWORK
   pub trip-nowork : x .kind ≡ NOWORK → Trips (onNoWork s x)
@@ -124,8 +123,8 @@ module _ (s : Table) (x : Message) (h : Hand s x) (g : Trip s (x ∷ flight s)) 
       let b = x .to in
       let n = nodeAt s b in
       let u = withNode s b (waiting n 0) in
-      let f : Frame s u = frame-node s s (frame-refl s (h .sized)) b (waiting n 0) (h .message .to) (alive-waiting n 0) in
+      let f : Frame s u = frame-node s s (frame-refl s (h .sized)) b (waiting n 0) (alive-waiting n 0) in
       simp flight-node
       (trip-table s u (flight s) (places s (h .facts)) (λ j. simp views) (f .alive) (λ m j a c. rw pool-node (g .pools m j a c))
-      (λ j p a c o. omega (arith, has-waiting s b p j (jobAt s j .replica) 0 n (h .sized) (h .message .to) refl))
+      (λ j p a c o. omega (arith, has-waiting s b p j (jobAt s j .replica) 0 n refl))
       (trip-passed s x (flight s) NOWORK k8 (unfold isTrip in refl) refl g))

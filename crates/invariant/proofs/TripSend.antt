@@ -10,15 +10,15 @@ use lib.Dec.{eqb}
 use Rattle.table.specs.declared.Message.{Message}
 use Rattle.table.specs.declared.Table.{Table}
 use Rattle.table.specs.Views.{noMessage, jobAt, nodeAt, poolAt, messageAt, flight, withMessages}
-use Rattle.table.specs.Messages.{pull, send}
+use Rattle.table.specs.Messages.{pull, send, RoomFor}
 use Rattle.table.specs.Parts.{ACK, RESULT}
 use Rattle.table.proofs.Views.{Sized, views}
 use Rattle.slots.specs.Slots.{toRoot}
 use Rattle.lists.specs.Scan.{without}
 use Rattle.lists.proofs.Count.{ind, count-append, every-append}
 use Rattle.invariant.proofs.Flight.{sends, takes, count-taken, every-taken}
-use Rattle.invariant.proofs.Frame.{Frame}
-use Rattle.invariant.proofs.State.{Trip, Known, trip, isTrip, ackFrom, resultFrom, dead, has, held}
+use Rattle.invariant.proofs.Frame.{Frame, frame-room}
+use Rattle.invariant.proofs.State.{Trip, Known, isTrip, resultFrom, dead, has, held}
 use Rattle.invariant.proofs.TripLaws.{trip-other, ack-other, result-other, known-plain, Places}
 use Rattle.invariant.proofs.TripFrame.{trip-frame, trip-list, trip-dropped, trip-passed, trip-nothing, trip-step}
 
@@ -34,10 +34,10 @@ trip-apart t n k l i = trip-same t (withMessages t n k) (λ j. simp views) (λ m
 
 -- ---- the message in hand is sent, after updates that leave the messages in flight as they were
 
-pub trip-sends : (s u : Table) (y : Message) → Frame s u → s .«in_flight» < 128 → nodeAt s 0 .alive ≡ 1 → (toRoot (y .kind) ≡ true → y .to ≡ 0)
+pub trip-sends : (s u : Table) (y : Message) → Frame s u → RoomFor s (y .to) → nodeAt s 0 .alive ≡ 1 → (toRoot (y .kind) ≡ true → y .to ≡ 0)
     → Trip u (y ∷ flight s) → Trip (send u y) (flight (send u y))
 trip-sends s u y f room root home i =
-    sends Trip trip-apart u y (f .sized) (rw (f .used) room)
+    sends Trip trip-apart u y (f .sized) (frame-room s u f (y .to) room)
     (λ t. trip-list u (y ∷ flight u) (flight u ++ y ∷ []) (every-append (Known u) (flight u) y (t .known .1) (t .known .0)) (λ p. omega (arith, count-append p (flight u) (y ∷ []))) t)
     (λ gone t.
     let away : toRoot (y .kind) ≡ true → ⊥ = λ r. gone (rw (home r) (f .alive 0 ∙ root)) in

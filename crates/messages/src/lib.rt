@@ -2,14 +2,14 @@
 // Each public function equals the definition of its name in the crate `table`; `drop_to` and `drop_from` equal its `sift`.
 ghost use mathlib.Core.Path.{_≡_};
 ghost use Prim.Native.Nat.{_<_, _≤_};
-ghost use Rattle.table.specs.Messages.{chan, send, oldest, pull, sift, notTo, notFrom};
+ghost use Rattle.table.specs.Messages.{chan, send, RoomFor, oldest, pull, sift, notTo, notFrom};
 ghost use Rattle.messages.specs.Others.{others};
 use table::Message;
 use table::Table;
 
 // "A message to a dead machine is stored nowhere."
 pub fn send(t: Table, m: Message) -> Table
-    requires { ⌜ t .«in_flight» < 128 ⌝ }
+    requires { ⌜ RoomFor t (m .to) ⌝ }
     requires { ⌜ m .to < 16 ⌝ }
     ensures { λ r. ⌜ r ≡ send t m ⌝ }
 {

@@ -4,6 +4,7 @@ use Prim.Native.Nat.{ℕ, _<_}
 use mathlib.Core.Path.{_≡_, sym}
 use mathlib.Core.Logic.{_≢_}
 use mathlib.Core.Bool.{true, _&&_}
+use native.Mathlib.Omega.{arith}
 use borrow.Author.Tests.{le-leb, eqb-false, not-true}
 use lib.Dec.{eqb, leb, ltb}
 use Rattle.lists.specs.Scan.{filter}
@@ -20,7 +21,8 @@ use Rattle.elements.specs.Elements.{toldOk}
 use Rattle.validity.specs.Validity.{sizesOk, bound}
 use Rattle.events.specs.Events.{died}
 use Rattle.events.proofs.Views.{machines-died, entries-died, bond-died, job-died, told-died, flight-died, node-died, node-died-other, pool-died, pool-died-other}
-use Rattle.preservation.proofs.Ok.{Ok, inFlightOk}
+use Rattle.events.proofs.Cases.{Dying}
+use Rattle.preservation.proofs.Ok.{Ok, Valid, inFlightOk, machines-most}
 use Rattle.preservation.proofs.Sizes.{sized-died}
 
 -- who was told of a machine may still have been told of it when it is dead
@@ -48,7 +50,7 @@ module _ (t : Table) (s : Sized t) (o : Ok t) (a : ℕ) (h : a < 16) (nz : a ≢
   far : (x : Message) → notTo a x ≡ true → x .to ≢ a
   far x e = eqb-false (x .to) a (not-true _ e)
 
-  pub ok-died : Ok (died t a)
+  ok-died : Ok (died t a)
   ok-died = record {
     sizes = sizes-died;
     bond = λ j l. simp (entries-died t a, bond-died t a) (o .bond j l);
@@ -71,3 +73,8 @@ module _ (t : Table) (s : Sized t) (o : Ok t) (a : ℕ) (h : a < 16) (nz : a ≢
         (λ e. rw e (simp (node-died t a s h) (told-now-dead (t .machines) (nodeAt t a .alive) k a (toldAt t k a) (o .told k a l h))))
         (λ e. let q = node-died-other t a i e in simp q (o .told k i l m)));
   }
+
+pub valid-died : (t : Table) → Valid t → (a : ℕ) → Dying t a → Valid (died t a)
+valid-died t v a d =
+    let o = v .ok in
+    record { sized = sized-died t (v .sized) a; ok = ok-died t (v .sized) o a (omega (arith, d .machine, machines-most t (o .sizes))) (d .other) }

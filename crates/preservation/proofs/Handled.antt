@@ -48,7 +48,7 @@ module _ (t : Table) (s : Sized t) (o : Ok t) where
 
   pub ok-noWork : (b th : ℕ) → t .«in_flight» < 128 → b < t .machines → th < t .machines → Ok (noWork t b th)
   unfolding noWork message
-  ok-noWork b th l h k = ok-send t s o (message 8 b th 0 0 0) l (rw (lt-ltb b (t .machines) h, lt-ltb th (t .machines) k))
+  ok-noWork b th l h k = ok-send t s o (message 8 b th 0 0 0) (λ e. l) (rw (lt-ltb b (t .machines) h, lt-ltb th (t .machines) k))
 
 bound-enter : (t : Table) (m j r : ℕ) → bound (enter t m j r) ≡ bound t
 unfolding enter
@@ -132,7 +132,7 @@ module _ (t : Table) (x : Message) (s : Sized t) (o : Ok t) (l : t .«in_flight�
       let ps : Sized p = sized-pool t b j 0 s in
       let nv = node-reserve M E B b (nodeAt t b) (o .node b to-16) al j q (x .from) c from-m in
       let uo : Ok (withNode p b v) = ok-node p ps po b v to-16 (unfold reserve in simp views) (simp wide nv) in
-      ok-send (withNode p b v) (sized-node p b v ps) uo (message 2 b 0 j q (x .from)) (simp views l)
+      ok-send (withNode p b v) (sized-node p b v ps) uo (message 2 b 0 j q (x .from)) (λ e. simp views l)
       (simp wide (rw (lt-ltb b M to-m, root-m, c, lt-ltb (x .from) M from-m)))
 
   pub ok-fish : Ok (onFish t x)
@@ -156,7 +156,8 @@ module _ (t : Table) (x : Message) (s : Sized t) (o : Ok t) (l : t .«in_flight�
       let v = release (nodeAt t b) in
       byBool (reserves (nodeAt t b) (x .job) (x .replica) (x .thief))
       (λ a. rw (a, onAuth)
-      (ok-send (withNode t b v) (sized-node t b v s) (ok-release t s o b to-16 al) (message 6 b (x .thief) (x .job) (x .replica) 0) (simp views l)
+      (ok-send (withNode t b v) (sized-node t b v s) (ok-release t s o b to-16 al)
+      (message 6 b (x .thief) (x .job) (x .replica) 0) (λ e. simp views l)
       (simp wide (rw (lt-ltb b M to-m, lt-ltb (x .thief) M th, copy-in M E B x g w)))))
       (λ a. rw (a, onAuth) o)
 
@@ -195,7 +196,7 @@ module _ (t : Table) (x : Message) (s : Sized t) (o : Ok t) (l : t .«in_flight�
       let v = waiting (nodeAt t b) 0 in
       let wo = ok-waiting u us (ok-enter t s o b (x .job) (x .replica) to-16 al c) b 0 to-16 (rw e al) (omega arith) in
       let uo : Ok (withNode u b v) = rw e at wo in
-      ok-send (withNode u b v) (sized-node u b v us) uo (message 7 b 0 (x .job) (x .replica) 0) (simp (views, used-enter) l)
+      ok-send (withNode u b v) (sized-node u b v us) uo (message 7 b 0 (x .job) (x .replica) 0) (λ e. simp (views, used-enter) l)
       (simp (wide, bound-enter, machines-enter, entries-enter) (rw (lt-ltb b M to-m, root-m, c)))
 
   pub ok-idle : Ok (onNoWork t x)
@@ -240,7 +241,7 @@ current false p q e = eqb-true p q (not-false _ e)
 module _ (t : Table) (x : Message) (s : Sized t) (o : Ok t) (l : t .«in_flight» < 128) where
   ok-reply : (n : ℕ) → messageOk (t .machines) (t .entries) (bound t) (message n 0 (x .from) (x .job) (x .replica) (x .thief)) ≡ true → Ok (reply t x n)
   unfolding reply
-  ok-reply n = ok-send t s o (message n 0 (x .from) (x .job) (x .replica) (x .thief)) l
+  ok-reply n = ok-send t s o (message n 0 (x .from) (x .job) (x .replica) (x .thief)) (λ e. l)
 
 module _ (t : Table) (x : Message) (s : Sized t) (o : Ok t) (l : t .«in_flight» < 128)
     (g : messageOk (t .machines) (t .entries) (bound t) x ≡ true) (k : x .kind ≡ 2) where

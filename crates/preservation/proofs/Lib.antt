@@ -11,4 +11,3 @@ pub mod Handled
 pub mod Accepted
 pub mod Died
 pub mod Noticed
-pub mod Answers

@@ -20,11 +20,13 @@ use Rattle.elements.specs.Elements.{copyOk}
 use Rattle.validity.specs.Validity.{bound}
 use Rattle.notice.specs.Notice.{informed, unwaited, reclaimed, quieted, lost, reissueOne, reissue, noticed}
 use Rattle.notice.proofs.Parts.{job-informed, node-informed, entries-informed}
-use Rattle.preservation.proofs.Ok.{Ok, machines-some, machines-most}
+use Rattle.notice.proofs.Cases.{Noticing}
+use Rattle.preservation.proofs.Ok.{Ok, Valid, machines-some, machines-most}
+use Rattle.preservation.proofs.Passed.{facts}
 use Rattle.preservation.proofs.Facts.{copy-job, copy-most, copy-is, state-job, job-copy}
 use Rattle.preservation.proofs.Updates.{wide, ok-sift}
 use Rattle.preservation.proofs.Told.{ok-told, bound-root}
-use Rattle.preservation.proofs.Sizes.{sized-informed, sized-reclaimed, sized-quieted, sized-reissueOne, sized-enter}
+use Rattle.preservation.proofs.Sizes.{sized-informed, sized-reclaimed, sized-quieted, sized-reissueOne, sized-noticed}
 use Rattle.preservation.proofs.Handled.{ok-waiting, ok-returned}
 use Rattle.preservation.proofs.Accepted.{ok-opened}
 
@@ -49,7 +51,7 @@ returned-frame t a s h =
       job = λ k. simp wide;
       most = simp wide;
       size = simp wide;
-      alive = λ k. alive-node (enter t a j r) a (release v) (sized-enter t a j r s) h (unfold release in simp views) k ∙ simp views;
+      alive = λ k. alive-node (enter t a j r) a (release v) (unfold release in simp views) k ∙ simp views;
     }
 
 reclaimed-frame : (t : Table) (a b : ℕ) → Sized t → a < 16 → Frame t (reclaimed t a b)
@@ -67,7 +69,7 @@ unwaited-frame t a b s h =
       job = λ k. simp wide;
       most = simp wide;
       size = simp wide;
-      alive = λ k. alive-node t a (waiting (nodeAt t a) 0) s h (unfold waiting in refl) k;
+      alive = λ k. alive-node t a (waiting (nodeAt t a) 0) (unfold waiting in refl) k;
     }))
     (λ e. rw (e, unwaited) (same t))
 
@@ -188,13 +190,19 @@ module _ (t : Table) (s : Sized t) (o : Ok t) (b : ℕ) (bm : b < t .machines) (
       copy-is (u .entries) (bound u) j (jobAt u j .replica + 1)
       (omega (arith, copy-job (t .entries) (bound t) j (v .replica) c)) (omega arith) (omega (arith, copy-most (t .entries) (bound t) j (v .replica) c)))
 
-pub ok-noticed : (t : Table) → Sized t → Ok t → (a b : ℕ) → a < t .machines → b < t .machines
-    → nodeAt t a .alive ≡ 1 → nodeAt t b .alive ≡ 0 → toldAt t a b ≡ 0 → Ok (noticed t a b)
+pub valid-noticed : (t : Table) → Valid t → (a b : ℕ) → Noticing t a b → Valid (noticed t a b)
 unfolding noticed
-ok-noticed t s o a b am bm al d new =
-    byBool (eqb a 0)
-    (λ e.
-    let z : a ≡ 0 = eqb-true a 0 e in
-    let n0 : toldAt t 0 b ≡ 0 = ap (λ (k : ℕ). toldAt t k b) (sym z) ∙ new in
-    rw (e, noticed) (subst (λ (k : ℕ). Ok (reissue (quieted t k b) b)) (sym z) (ok-root t s o b bm d n0)))
-    (λ e. rw (e, noticed) (ok-quieted t s a b o am bm al d))
+valid-noticed t v a b n =
+    let s = v .sized in
+    let o = v .ok in
+    let f = facts t s o .machine b (omega (arith, n .named, machines-most t (o .sizes))) .alive in
+    let d : nodeAt t b .alive ≡ 0 = omega (arith, n .dead) in
+    record {
+      sized = sized-noticed t s a b;
+      ok = byBool (eqb a 0)
+          (λ e.
+          let z : a ≡ 0 = eqb-true a 0 e in
+          let n0 : toldAt t 0 b ≡ 0 = ap (λ (k : ℕ). toldAt t k b) (sym z) ∙ n .new in
+          rw (e, noticed) (subst (λ (k : ℕ). Ok (reissue (quieted t k b) b)) (sym z) (ok-root t s o b (n .named) d n0)))
+          (λ e. rw (e, noticed) (ok-quieted t s a b o (n .machine) (n .named) (n .alive) d));
+    }

@@ -40,6 +40,11 @@ pub record Ok (t : Table) : Type 0 where
   pub root : rootOk t ≡ true
   pub told : (m d : ℕ) → m < 16 → d < 16 → toldOk (t .machines) (nodeAt t d .alive) m d (toldAt t m d) ≡ true
 
+-- the arrays have their lengths, and the table passes
+pub record Valid (t : Table) : Type 0 where
+  pub sized : Sized t
+  pub ok : Ok t
+
 -- ---- the slots against the list in flight and its padding
 
 abbrev pub slot : Table → ℕ → Bool

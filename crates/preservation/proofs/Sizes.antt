@@ -11,10 +11,9 @@ use Rattle.table.specs.Parts.{returned}
 use Rattle.table.proofs.Views.{Sized, views, sized-job, sized-node, sized-pool, sized-told}
 use Rattle.table.proofs.Messages.{sized-send, sized-pull, sized-sift}
 use Rattle.events.specs.Events.{admitted, delivered, died}
-use Rattle.steal.specs.Steal.{stolen}
-use Rattle.work.specs.Work.{started, finished}
+use Rattle.work.specs.Work.{started}
 use Rattle.notice.specs.Notice.{informed, reclaimed, quieted, reissueOne, noticed}
-use Rattle.preservation.proofs.Closed.{Closed, closed-enter, closed-returned, closed-admitted, closed-stolen, closed-delivered, closed-started, closed-finished, closed-died, closed-informed, closed-reclaimed, closed-reissueOne, closed-quieted, closed-noticed}
+use Rattle.preservation.proofs.Closed.{Closed, closed-enter, closed-returned, closed-admitted, closed-delivered, closed-started, closed-died, closed-informed, closed-reclaimed, closed-reissueOne, closed-quieted, closed-noticed}
 
 -- and n slots are free
 abbrev Free : ℕ → Table → Type 0
@@ -27,7 +26,7 @@ free = record {
   pool = λ n t m j r p. (sized-pool t m j r (p .0), simp views (p .1));
   told = λ t m d r p. (sized-told t m d r (p .0), simp views (p .1));
   sift = λ t f p. let s = sized-sift t (p .0) f in (s, omega (arith, s .used));
-  send = λ t x p. let s = sized-send t (p .0) x (omega (arith, p .1)) in (s, omega (arith, s .used));
+  send = λ t x p. let s = sized-send t (p .0) x (λ e. omega (arith, p .1)) in (s, omega (arith, s .used));
   less = λ t p. (p .0, omega (arith, p .1));
 }
 
@@ -47,23 +46,14 @@ module _ (t : Table) (s : Sized t) where
   some : Free 0 t
   some = (s, omega (arith, s .used))
 
-  room : t .«in_flight» < 128 → Free 1 t
-  room l = (s, omega arith)
-
   pub sized-admitted : (a : ℕ) → Sized (admitted t a)
   sized-admitted a = closed-admitted Free free t a some .0
-
-  pub sized-stolen : (a b : ℕ) → t .«in_flight» < 128 → Sized (stolen t a b)
-  sized-stolen a b l = closed-stolen Free free t a b (room l) .0
 
   pub sized-delivered : (k : ℕ) → k < t .«in_flight» → Sized (delivered t k)
   sized-delivered k h = closed-delivered Free free t k (sized-pull t s k h, omega (arith, used-pull t k, s .used)) .0
 
   pub sized-started : (a b : ℕ) → Sized (started t a b)
   sized-started a b = closed-started Free free t a b some .0
-
-  pub sized-finished : (a : ℕ) → t .«in_flight» < 128 → Sized (finished t a)
-  sized-finished a l = closed-finished Free free t a (room l) .0
 
   pub sized-died : (a : ℕ) → Sized (died t a)
   sized-died a = closed-died Free free t a some .0

@@ -5,7 +5,7 @@ use mathlib.Core.Path.{_≡_}
 use mathlib.Core.Bool.{Bool, true, _&&_}
 use mathlib.Core.List.{List}
 use native.Mathlib.Omega.{arith}
-use borrow.Author.Tests.{le-leb}
+use borrow.Author.Tests.{eqb-true, le-leb}
 use lib.Dec.{eqb, leb}
 use Rattle.lists.specs.Scan.{filter}
 use Rattle.lists.proofs.Scans.{length-filter}
@@ -16,13 +16,13 @@ use Rattle.table.specs.declared.Job.{Job}
 use Rattle.table.specs.declared.Machine.{Machine}
 use Rattle.table.specs.declared.Message.{Message}
 use Rattle.table.specs.Views.{nodeAt, flight, withJob, withNode, withPool, withMessages}
-use Rattle.table.specs.Messages.{push, pull, sift, send}
+use Rattle.table.specs.Messages.{push, pull, sift, send, RoomFor}
 use Rattle.table.proofs.Views.{Sized, views, job-same, job-other, node-same, node-other, pool-same, pool-other-node, pool-other-job, alive-node, length-flight}
-use Rattle.table.proofs.Messages.{Padded, flight-push, flight-pull, flight-sift, padded-push, padded-pull, padded-sift}
+use Rattle.table.proofs.Messages.{Padded, sized-send, flight-push, flight-pull, flight-sift, padded-push, padded-pull, padded-sift}
 use Rattle.elements.specs.Elements.{jobOk, nodeOk, cellOk}
 use Rattle.slots.specs.Slots.{messageOk}
 use Rattle.validity.specs.Validity.{sizesOk, bound}
-use Rattle.preservation.proofs.Ok.{Ok, inFlightOk}
+use Rattle.preservation.proofs.Ok.{Ok, Valid, inFlightOk}
 
 -- ---- what an update leaves
 
@@ -83,7 +83,7 @@ module _ (t : Table) (s : Sized t) (o : Ok t) where
   -- the machine stays alive, or stays dead
   pub ok-node : (m : ℕ) (v : Machine) → m < 16 → v .alive ≡ nodeAt t m .alive → nodeOk (t .machines) (t .entries) (bound t) m v ≡ true → Ok (withNode t m v)
   ok-node m v h a g =
-      let al : (k : ℕ) → nodeAt (withNode t m v) k .alive ≡ nodeAt t k .alive = alive-node t m v s h a in
+      let al : (k : ℕ) → nodeAt (withNode t m v) k .alive ≡ nodeAt t k .alive = alive-node t m v a in
       record {
         sizes = simp wide (o .sizes);
         bond = simp wide (o .bond);
@@ -156,9 +156,12 @@ module _ (t : Table) (s : Sized t) (o : Ok t) where
       (every-filter (λ x. inFlightOk t x ≡ true) p (flight t) (o .messages))))
       (padded-sift t s p)
 
-  pub ok-send : (x : Message) → t .«in_flight» < 128 → messageOk (t .machines) (t .entries) (bound t) x ≡ true → Ok (send t x)
+  pub ok-send : (x : Message) → RoomFor t (x .to) → messageOk (t .machines) (t .entries) (bound t) x ≡ true → Ok (send t x)
   unfolding send
   ok-send x l g =
       byBool (eqb (nodeAt t (x .to) .alive) 1)
-      (λ e. rw (e, send) (ok-push x l (rw e g)))
+      (λ e. rw (e, send) (ok-push x (l (eqb-true _ 1 e)) (rw e g)))
       (λ e. rw (e, send) o)
+
+  pub valid-send : (x : Message) → RoomFor t (x .to) → messageOk (t .machines) (t .entries) (bound t) x ≡ true → Valid (send t x)
+  valid-send x l g = record { sized = sized-send t s x l; ok = ok-send x l g }

@@ -8,6 +8,7 @@ use lib.Dec.{eqb, leb}
 use Rattle.lists.proofs.Cases.{byBool}
 use Rattle.table.specs.declared.Table.{Table}
 use Rattle.table.specs.Views.{nodeAt, toldAt}
+use Rattle.table.specs.Messages.{RoomFor}
 use Rattle.table.specs.Parts.{lives}
 use Rattle.table.proofs.Refusals.{Judged}
 use Rattle.steal.specs.Steal.{stolen, stealOf}
@@ -17,7 +18,7 @@ pub record Stealing (t : Table) (a b : ℕ) : Type 0 where
   pub victim : b < t .machines
   pub alive : nodeAt t a .alive ≡ 1
   pub untold : toldAt t a b ≡ 0
-  pub room : t .«in_flight» < 128
+  pub room : RoomFor t b
 
 module _ (t : Table) (a b : ℕ) (h : a < t .machines) (k : b < t .machines) where
   pub by-steal : Judged t (Stealing t a b) (stolen t a b) (stealOf t a b)
@@ -29,4 +30,7 @@ module _ (t : Table) (a b : ℕ) (h : a < t .machines) (k : b < t .machines) whe
       (λ e3. byBool (not (eqb (toldAt t a b) 0)) (λ e. rw (e1, e2, e3, e, stealOf) (refused 14 refl))
       (λ e4. byBool (leb 128 (t .«in_flight»)) (λ e. rw (e1, e2, e3, e4, e, stealOf) (refused 16 refl))
       (λ e5. rw (e1, e2, e3, e4, e5, stealOf)
-      (f (record { machine = h; victim = k; alive = eqb-true _ 1 (not-false (lives t a) e1); untold = eqb-true (toldAt t a b) 0 (not-false _ e4); room = leb-false 128 (t .«in_flight») e5 })))))))
+      (f (record {
+        machine = h; victim = k; alive = eqb-true _ 1 (not-false (lives t a) e1); untold = eqb-true (toldAt t a b) 0 (not-false _ e4);
+        room = λ l. leb-false 128 (t .«in_flight») e5;
+      })))))))

@@ -2,6 +2,7 @@
 // where that number is 0.
 ghost use mathlib.Core.Path.{_≡_};
 ghost use Prim.Native.Nat.{_<_};
+ghost use Rattle.table.specs.Messages.{RoomFor};
 ghost use Rattle.steal.specs.Steal.{stolen, stealOf};
 use table::Message;
 use table::Table;
@@ -36,7 +37,7 @@ pub fn steal_number(t: Table, a: u8, b: u8) -> u8
 // Thief a sends FISH to b and waits on b.
 pub fn stolen(t: Table, a: u8, b: u8) -> Table
     requires { ⌜ (a < 16) × (b < 16) ⌝ }
-    requires { ⌜ t .«in_flight» < 128 ⌝ }
+    requires { ⌜ RoomFor t b ⌝ }
     ensures { λ r. ⌜ r ≡ stolen t a b ⌝ }
 {
     let mut u = t;

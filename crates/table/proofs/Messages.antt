@@ -11,9 +11,10 @@ use lib.Seq.{take-suc-set, take-append-seam, take-append-le, drop-append-le, tak
 use Rattle.table.specs.declared.Table.{Table}
 use Rattle.table.specs.declared.Message.{Message}
 use Rattle.table.specs.Views.{noMessage, nodeAt, flight, messageAt, withMessages}
-use Rattle.table.specs.Messages.{push, pull, sift, send}
+use Rattle.table.specs.Messages.{push, pull, sift, send, RoomFor}
 use Rattle.lists.specs.Scan.{without, filter, padTo}
 use lib.Dec.{eqb}
+use borrow.Author.Tests.{eqb-true}
 use Rattle.lists.proofs.Cases.{byBool}
 use Rattle.lists.proofs.Scans.{pad-more, length-pad, length-filter}
 use Rattle.table.proofs.Views.{Sized, sized-messages, length-flight}
@@ -56,9 +57,9 @@ module _ (t : Table) (s : Sized t) where
   unfolding push
   sized-push m l = sized-messages t _ _ (simp length-set (s .messages)) (omega arith) s
 
-  pub sized-send : (m : Message) → t .«in_flight» < 128 → Sized (send t m)
+  pub sized-send : (m : Message) → RoomFor t (m .to) → Sized (send t m)
   unfolding send
-  sized-send m l = byBool (eqb (nodeAt t (m .to) .alive) 1) (λ e. rw (e, send) (sized-push m l)) (λ e. rw (e, send) s)
+  sized-send m l = byBool (eqb (nodeAt t (m .to) .alive) 1) (λ e. rw (e, send) (sized-push m (l (eqb-true _ 1 e)))) (λ e. rw (e, send) s)
 
   pub sized-pull : (k : ℕ) → k < t .«in_flight» → Sized (pull t k)
   unfolding pull without

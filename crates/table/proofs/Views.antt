@@ -1,18 +1,21 @@
 -- The laws of the table's views over its updates. Everything but the proofs of code goes by these, and unfolds no view.
 -- Assumes nothing.
-use mathlib.Core.Path.{_≡_, refl}
+use mathlib.Core.Path.{_≡_, refl, sym, _∙_}
 use mathlib.Core.Logic.{_≢_}
 use mathlib.Core.List.{List}
 use Prim.Native.Nat.{ℕ, _+_, _*_, _-_, _≤_, _<_}
 use native.Mathlib.Omega.{arith}
+use borrow.Author.Tests.{ltb-true, ltb-false}
+use lib.Dec.{ltb}
 use lib.ListN.{length, length-set}
-use lib.Seq.{getD-set-same, getD-set-other, length-take-le}
+use lib.Seq.{getD-set-same, getD-set-other, set-out, length-take-le}
 use Rattle.table.specs.declared.Job.{Job}
 use Rattle.table.specs.declared.Machine.{Machine}
 use Rattle.table.specs.declared.Message.{Message}
 use Rattle.table.specs.declared.Table.{Table}
-use Rattle.lists.proofs.Cases.{byEq}
+use Rattle.lists.proofs.Cases.{byBool, byEq}
 use Rattle.table.specs.Views.{noJob, noMachine, bondAt, jobAt, nodeAt, poolAt, toldAt, messageAt, flight, withJob, withNode, withPool, withTold, withMessages}
+use Rattle.table.specs.Messages.{RoomFor}
 
 -- the arrays have their lengths
 pub record Sized (t : Table) : Type 0 where
@@ -301,9 +304,21 @@ slots-told t m d r = refl
 
 pub ruleset views = (bond-job, bond-node, bond-pool, bond-told, bond-messages, job-node, job-pool, job-told, job-messages, node-job, node-pool, node-told, node-messages, pool-job, pool-node, pool-told, pool-messages, told-job, told-node, told-pool, told-messages, message-job, message-node, message-pool, message-told, flight-job, flight-node, flight-pool, flight-told, machines-job, machines-node, machines-pool, machines-told, machines-messages, entries-job, entries-node, entries-pool, entries-told, entries-messages, bonds-job, bonds-node, bonds-pool, bonds-told, bonds-messages, used-job, used-node, used-pool, used-told, slots-job, slots-node, slots-pool, slots-told)
 
--- a machine's update that leaves it alive or dead as it was
-pub alive-node : (t : Table) (m : ℕ) (v : Machine) → Sized t → m < 16 → v .alive ≡ nodeAt t m .alive → (k : ℕ) → nodeAt (withNode t m v) k .alive ≡ nodeAt t k .alive
-alive-node t m v s h e k =
+-- a part of the machines' records that machine m's new record has too; also where there is no machine m, since then nothing is written
+pub part-node : {A : Type 0} (f : Machine → A) (t : Table) (m : ℕ) (v : Machine)
+    → f v ≡ f (nodeAt t m) → (k : ℕ) → f (nodeAt (withNode t m v) k) ≡ f (nodeAt t k)
+unfolding nodeAt withNode
+part-node f t m v e k =
     byEq k m
-    (λ d. rw d (rw (node-same t s m v h) e))
-    (λ d. rw (node-other t m k v d))
+    (λ d. rw d (byBool (ltb m (length (t .nodes)))
+    (λ l. rw (getD-set-same (t .nodes) m v noMachine (ltb-true _ _ l)) e)
+    (λ l. rw (set-out (t .nodes) m v (ltb-false _ _ l)))))
+    (λ d. rw (getD-set-other (t .nodes) m k v noMachine d))
+
+-- a machine's update that leaves it alive or dead as it was
+module _ (t : Table) (m : ℕ) (v : Machine) (e : v .alive ≡ nodeAt t m .alive) where
+  pub alive-node : (k : ℕ) → nodeAt (withNode t m v) k .alive ≡ nodeAt t k .alive
+  alive-node = part-node (λ n. n .alive) t m v e
+
+  pub room-node : (b : ℕ) → RoomFor t b → RoomFor (withNode t m v) b
+  room-node b r l = rw (used-node t m v) (r (sym (alive-node b) ∙ l))

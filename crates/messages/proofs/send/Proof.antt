@@ -1,5 +1,6 @@
 -- `messages::send` meets its contract. The test of the receiver is that of the definition.
 -- Assumes nothing.
+use Prim.Native.Nat.{_<_}
 use borrow.Author.Needs.{needs}
 use Rattle.lists.proofs.Rules.{flags}
 use Rattle.table.specs.Messages.{push, send}
@@ -22,11 +23,16 @@ cast-n c = search needs
 mul-m : tie.Need-mul-m
 mul-m c = search needs
 
+-- the receiver lives, so a slot is free
+room : (c : tie.Then1) → c .before .before .before .before .args .t .«in_flight» < 128
+unfolding parts
+room c = c .before .before .before .before .pre .0 (c .if1 .taken)
+
 element-set-from-m : tie.Need-element-set-from-m
-element-set-from-m c = search needs
+element-set-from-m c = let l = room c in search needs
 
 add-u : tie.Need-add-u
-add-u c = search needs
+add-u c = let l = room c in search needs
 
 returns : tie.Need-returns
 unfolding send push parts

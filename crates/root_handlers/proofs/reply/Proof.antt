@@ -8,7 +8,7 @@ use Rattle.root_handlers.proofs.reply.Statement.{statement}
 use Rattle.root_handlers.proofs.reply.Tie as tie
 
 send-requires : tie.Need-send-requires
-send-requires c κs = search needs
+send-requires c κs = ((λ l. search needs), search needs)
 
 returns : tie.Need-returns
 unfolding reply message

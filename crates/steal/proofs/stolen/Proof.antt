@@ -1,9 +1,12 @@
 -- `steal::stolen` meets its contract. One store, then the equation of `send`.
 -- Assumes nothing.
+use Prim.Native.Nat.{_+_}
+use mathlib.Core.Path.{refl}
 use borrow.Author.Needs.{needs}
 use Rattle.lists.proofs.Rules.{flags}
-use Rattle.table.specs.Parts.{message, pieces}
-use Rattle.table.specs.Views.{parts}
+use Rattle.table.specs.Parts.{waiting, message, pieces}
+use Rattle.table.specs.Views.{nodeAt, parts}
+use Rattle.table.proofs.Views.{room-node}
 use Rattle.steal.specs.Steal.{stolen}
 use Rattle.steal.proofs.stolen.Statement.{statement}
 use Rattle.steal.proofs.stolen.Tie as tie
@@ -24,7 +27,11 @@ element-set-from-n : tie.Need-element-set-from-n
 element-set-from-n c = search needs
 
 send-requires : tie.Need-send-requires
-send-requires c κs = search needs
+unfolding waiting parts
+send-requires c κs =
+    let s = c .before in
+    let t = s .args .t in
+    (room-node t (s .args .a) (waiting (nodeAt t (s .args .a)) (s .args .b + 1)) refl (s .args .b) (s .pre .1), search needs)
 
 returns : tie.Need-returns
 unfolding stolen message pieces parts

@@ -31,7 +31,7 @@ element-set-from-thief c = search needs
 
 send-requires : tie.Need-send-requires
 unfolding enter parts
-send-requires c κs = rw (c .enter .ensures) (search tests)
+send-requires c κs = ((λ l. rw (c .enter .ensures) (search tests)), search tests)
 
 returns : tie.Need-returns
 unfolding onSchedule message pieces parts

@@ -39,7 +39,7 @@ cast-t13 : tie.Need-cast-t13
 cast-t13 c = search needs
 
 send-requires : tie.Need-send-requires
-send-requires c κs = search needs
+send-requires c κs = ((λ l. search needs), search needs)
 
 returns : tie.Need-returns
 unfolding grant message pieces parts

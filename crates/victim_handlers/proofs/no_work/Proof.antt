@@ -8,7 +8,7 @@ use Rattle.victim_handlers.proofs.no_work.Statement.{statement}
 use Rattle.victim_handlers.proofs.no_work.Tie as tie
 
 send-requires : tie.Need-send-requires
-send-requires c κs = search needs
+send-requires c κs = ((λ l. search needs), search needs)
 
 returns : tie.Need-returns
 unfolding noWork message

@@ -25,7 +25,7 @@ released-requires c κs = search needs
 
 send-requires : tie.Need-send-requires
 unfolding parts
-send-requires c κs = rw (c .released .ensures) (search tests)
+send-requires c κs = ((λ l. rw (c .released .ensures) (search tests)), search tests)
 
 returns : tie.Need-returns
 unfolding onAuth message parts

@@ -36,7 +36,7 @@ element-set-from-n : tie.Need-element-set-from-n
 element-set-from-n c = search needs
 
 send-requires : tie.Need-send-requires
-send-requires c κs = search needs
+send-requires c κs = ((λ l. search needs), search needs)
 
 returns : tie.Need-returns
 unfolding finished result pieces parts
