@@ -6,72 +6,41 @@ use mathlib.Core.Logic.{_≢_}
 use mathlib.Core.Bool.{true, false, not, _&&_, _||_}
 use native.Mathlib.Omega.{arith}
 use borrow.Author.Tests.{eqb-true, eqb-false, eq-eqb, ne-eqb}
-use lib.Dec.{eqb, leb}
-use Rattle.lists.proofs.Cases.{byBool, byEq, and-left, or-left-false}
+use lib.Dec.{eqb}
+use Rattle.lists.proofs.Cases.{byBool, byEq, cond-elim, and-left, or-left-false}
 use Rattle.table.specs.declared.Job.{Job}
 use Rattle.table.specs.declared.Message.{Message}
 use Rattle.table.specs.declared.Table.{Table}
-use Rattle.table.specs.Views.{jobAt, nodeAt, toldAt, messageAt, withJob}
-use Rattle.table.specs.Messages.{lowest, pull}
-use Rattle.table.specs.Parts.{moved, placed, priced, reserves, returned, OBSOLETE, DENIED, AUTH, RESULT}
-use Rattle.table.proofs.Views.{views, job-same, job-other, job-node}
-use Rattle.victim_handlers.specs.VictimHandlers.{noWork, grant, onFish, onAuth, onDenied, onObsolete}
+use Rattle.table.specs.Views.{jobAt, toldAt, messageAt, withJob}
+use Rattle.table.specs.Messages.{pull}
+use Rattle.table.specs.Parts.{moved, placed, priced, FISH, REQ, AUTH, DENIED, OBSOLETE, SCHEDULE, ACK, NOWORK, RESULT}
+use Rattle.table.proofs.Views.{job-same, job-other, job-node, job-pool}
+use Rattle.victim_handlers.specs.VictimHandlers.{onFish, onAuth, onDenied, onObsolete}
 use Rattle.thief_handlers.specs.ThiefHandlers.{onSchedule, onNoWork}
 use Rattle.root_handlers.specs.RootHandlers.{reply, onReq, onAck, onResult}
 use Rattle.handlers.specs.Handlers.{handle}
 use Rattle.events.specs.Events.{delivered}
 use Rattle.invariant.proofs.State.{Known, Hand, Whole}
 use Rattle.invariant.proofs.Hand.{hand}
-use Rattle.invariant.proofs.Flight.{every-taken, view-either}
-use Rattle.invariant.proofs.Frame.{job-enter}
+use Rattle.invariant.proofs.Flight.{every-taken}
 use Rattle.handlers.proofs.Cases.{by-kind}
+use Rattle.preservation.proofs.Closed.{Local, closed-fish, closed-auth, closed-denied, closed-obsolete, closed-schedule, closed-nowork}
 use Rattle.claims.proofs.Change.{Same, same-job, Change, job-send, job-pull, same-with}
 use Rattle.claims.proofs.Change.Change.{pricing, late, other}
 
 -- ---- the handlers that write no job
 
-module _ (s : Table) (x : Message) (j : ℕ) where
-  job-noWork : (u : Table) (b th : ℕ) → jobAt (noWork u b th) j ≡ jobAt u j
-  unfolding noWork
-  job-noWork u b th = job-send u _ j
+unwritten : (j : ℕ) (v : Job) → Local (λ n u. jobAt u j ≡ v)
+unwritten j v = record {
+  node = λ n t m w p. job-node t m w j ∙ p;
+  pool = λ n t m i r p. job-pool t m i r j ∙ p;
+  send = λ t x p. job-send t x j ∙ p;
+  less = λ t p. p;
+}
 
-  job-grant : (b th i : ℕ) → jobAt (grant s b th i) j ≡ jobAt s j
-  unfolding grant
-  job-grant b th i = job-send _ _ j ∙ simp views
-
-  job-fish : jobAt (onFish s x) j ≡ jobAt s j
-  unfolding onFish
-  job-fish =
-      view-either (λ u. jobAt u j) (not (eqb (nodeAt s (x .to) .«reserved_replica») 0)) _ _ (jobAt s j) (job-noWork s (x .to) (x .from))
-      (view-either (λ u. jobAt u j) (leb 64 (lowest s (x .to))) _ _ (jobAt s j) (job-noWork s (x .to) (x .from)) (job-grant (x .to) (x .from) (lowest s (x .to))))
-
-  job-auth : jobAt (onAuth s x) j ≡ jobAt s j
-  unfolding onAuth
-  job-auth = view-either (λ u. jobAt u j) (reserves (nodeAt s (x .to)) (x .job) (x .replica) (x .thief)) _ s (jobAt s j) (job-send _ _ j ∙ job-node s (x .to) _ j) refl
-
-  job-returned : (m : ℕ) → jobAt (returned s m) j ≡ jobAt s j
-  unfolding returned
-  job-returned m = simp (views, job-enter)
-
-  job-denied : jobAt (onDenied s x) j ≡ jobAt s j
-  unfolding onDenied
-  job-denied = view-either (λ u. jobAt u j) (reserves (nodeAt s (x .to)) (x .job) (x .replica) (x .thief)) _ s (jobAt s j) (job-noWork _ (x .to) (x .thief) ∙ job-returned (x .to)) refl
-
-  job-obsolete : jobAt (onObsolete s x) j ≡ jobAt s j
-  unfolding onObsolete
-  job-obsolete = view-either (λ u. jobAt u j) (reserves (nodeAt s (x .to)) (x .job) (x .replica) (x .thief)) _ s (jobAt s j) (job-noWork _ (x .to) (x .thief) ∙ job-node s (x .to) _ j) refl
-
-  job-schedule : jobAt (onSchedule s x) j ≡ jobAt s j
-  unfolding onSchedule
-  job-schedule = job-send _ _ j ∙ job-node _ (x .to) _ j ∙ job-enter s (x .to) (x .job) (x .replica) j
-
-  job-nowork : jobAt (onNoWork s x) j ≡ jobAt s j
-  unfolding onNoWork
-  job-nowork = job-node s (x .to) _ j
-
-  job-reply : (u : Table) (k : ℕ) → jobAt (reply u x k) j ≡ jobAt u j
-  unfolding reply
-  job-reply u k = job-send u _ j
+job-reply : (u : Table) (x : Message) (k j : ℕ) → jobAt (reply u x k) j ≡ jobAt u j
+unfolding reply
+job-reply u x k j = job-send u _ j
 
 -- ---- those that write one
 
@@ -92,12 +61,12 @@ module _ (s : Table) (x : Message) (h : Hand s x) (cap : x .replica ≤ jobAt s 
   unfolding onReq
   same-req =
       byBool (eqb (v .state) 2 || not (eqb (v .replica) (x .replica)))
-      (λ a. rw (a, onReq) (same-job _ _ (job-reply s x j s OBSOLETE)))
+      (λ a. rw (a, onReq) (same-job _ _ (job-reply s x OBSOLETE j)))
       (λ a. byBool (not (eqb (toldAt s 0 (x .thief)) 0) || not (eqb (v .moving) 0))
-      (λ b. rw (a, b, onReq) (same-job _ _ (job-reply s x j s DENIED)))
+      (λ b. rw (a, b, onReq) (same-job _ _ (job-reply s x DENIED j)))
       (λ b.
       let u = withJob s (x .job) (moved v (x .from) (x .thief)) in
-      rw (a, b, onReq) (rw (job-reply s x j u AUTH)
+      rw (a, b, onReq) (rw (job-reply u x AUTH j)
       (same-with s (h .sized) (x .job) (moved v (x .from) (x .thief)) (h .message .job) (same-moved v (x .from) (x .thief) (eqb-false (v .state) 2 (or-left-false (eqb (v .state) 2) (not (eqb (v .replica) (x .replica))) a))) j))))
 
   same-ack : Same (jobAt s j) (jobAt (onAck s x) j)
@@ -144,19 +113,21 @@ module _ (s : Table) (x : Message) (h : Hand s x) (cap : x .replica ≤ jobAt s 
       let two : v .state ≡ 2 = omega (arith, admitted k, eqb-false (v .state) 1 a, h .facts .job (x .job) (h .message .job) .state) in
       rw (a, onResult) (late refl d refl (ap (λ (i : ℕ). jobAt s i .state) (sym e) ∙ two) refl)))
       (λ e. other refl (rw (kb, ne-eqb (x .job) j e) refl) refl
-      (same-job _ _ (view-either (λ u. jobAt u j) (eqb (v .state) 1) _ s (jobAt s j) (job-other s (x .job) j _ (λ z. e (sym z))) refl)))
+      (same-job _ _ (cond-elim (λ u. jobAt u j ≡ jobAt s j) (eqb (v .state) 1) _ s (job-other s (x .job) j _ (λ z. e (sym z))) refl)))
 
   after-handle : After (handle s x)
   after-handle =
+      let Is : ℕ → Table → Type 0 = λ n u. jobAt u j ≡ jobAt s j in
+      let l : Local Is = unwritten j (jobAt s j) in
       by-kind After s x (λ n. absurd (n (h .message .kind-least) (h .message .kind-most)))
-      (λ k. kept (onFish s x) 1 k refl (job-fish s x j))
-      (λ k. plain (onReq s x) 2 k refl same-req)
-      (λ k. kept (onAuth s x) 3 k refl (job-auth s x j))
-      (λ k. kept (onDenied s x) 4 k refl (job-denied s x j))
-      (λ k. kept (onObsolete s x) 5 k refl (job-obsolete s x j))
-      (λ k. kept (onSchedule s x) 6 k refl (job-schedule s x j))
-      (λ k. plain (onAck s x) 7 k refl same-ack)
-      (λ k. kept (onNoWork s x) 8 k refl (job-nowork s x j))
+      (λ k. kept (onFish s x) FISH k refl (closed-fish Is l s x refl))
+      (λ k. plain (onReq s x) REQ k refl same-req)
+      (λ k. kept (onAuth s x) AUTH k refl (closed-auth Is l s x refl))
+      (λ k. kept (onDenied s x) DENIED k refl (closed-denied Is l s x refl))
+      (λ k. kept (onObsolete s x) OBSOLETE k refl (closed-obsolete Is l s x refl))
+      (λ k. kept (onSchedule s x) SCHEDULE k refl (closed-schedule Is l s x refl))
+      (λ k. plain (onAck s x) ACK k refl same-ack)
+      (λ k. kept (onNoWork s x) NOWORK k refl (closed-nowork Is l s x refl))
       after-result
 
 -- Deliver takes the message in slot k off

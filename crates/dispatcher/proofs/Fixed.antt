@@ -53,13 +53,15 @@ module _ {A : Type 0} (f : Table → A) (h : Fixed f) where
   fixed-closed : (a : A) → Closed (Is a)
   unfolding sift send push
   fixed-closed a = record {
+    local = record {
+      node = λ n t m v p. h .node t m v ∙ p;
+      pool = λ n t m j r p. h .pool t m j r ∙ p;
+      send = λ t x p. cond-elim (Is a 0) (eqb (nodeAt t (x .to) .alive) 1) _ t (h .messages t _ _ ∙ p) p;
+      less = λ t p. p;
+    };
     job = λ n t j v p. h .job t j v ∙ p;
-    node = λ n t m v p. h .node t m v ∙ p;
-    pool = λ n t m j r p. h .pool t m j r ∙ p;
     told = λ t m d r p. h .told t m d r ∙ p;
     sift = λ t q p. h .messages t _ _ ∙ p;
-    send = λ t x p. cond-elim (Is a 0) (eqb (nodeAt t (x .to) .alive) 1) _ t (h .messages t _ _ ∙ p) p;
-    less = λ t p. p;
   }
 
   module _ (t : Table) where

@@ -3,11 +3,11 @@
 use Prim.Native.Nat.{ℕ, _≤_, _<_}
 use mathlib.Core.Path.{_≡_}
 use mathlib.Core.Bool.{true, false, _&&_, _||_}
-use mathlib.Core.List.{List}
+use mathlib.Core.List.{List, [], _∷_}
 use borrow.Author.Tests.{le-leb, lt-leb, leb-true}
 use lib.Dec.{eqb, leb}
 use lib.ListN.{length}
-use Rattle.lists.proofs.Cases.{and-left}
+use Rattle.lists.proofs.Chains.{chain-apart}
 use Rattle.dispatcher.specs.Codes.{lastCode}
 use Rattle.dispatcher.specs.Step.{codeOf, secondOf, usesSecond, formed}
 
@@ -23,5 +23,4 @@ pub formed-long : (e : List ℕ) → formed e ≡ true → 3 ≤ length e
 unfolding formed
 formed-long e f =
     let c = codeOf e in
-    let last = usesSecond c || eqb (secondOf e) 0 in
-    leb-true 3 (length e) (and-left (leb 3 (length e)) (leb 1 c) (and-left (leb 3 (length e) && leb 1 c) (leb c lastCode) (and-left (leb 3 (length e) && leb 1 c && leb c lastCode) last f)))
+    leb-true 3 (length e) (chain-apart (leb 3 (length e)) (leb 1 c ∷ leb c lastCode ∷ (usesSecond c || eqb (secondOf e) 0) ∷ []) f .0)

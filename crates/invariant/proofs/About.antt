@@ -28,7 +28,7 @@ plain-bool false b false d g p = refl
 -- such a message is about no reserved copy
 pub about-plain : (m th j q : ℕ) (x : Message) → plain (x .kind) ≡ true → about m th j q x ≡ false
 unfolding about plain
-about-plain m th j q x p = plain-bool (eqb (x .kind) 2) (eqb (x .from) m) (isAnswer (x .kind)) (eqb (x .to) m) _ p
+about-plain m th j q x p = plain-bool (eqb (x .kind) REQ) (eqb (x .from) m) (isAnswer (x .kind)) (eqb (x .to) m) _ p
 
 -- and is no REQ
 pub plain-not : (x : Message) → plain (x .kind) ≡ true → x .kind ≡ REQ → ⊥
@@ -60,8 +60,8 @@ pub about-dead : (t : Table) (x : Message) (m th j q : ℕ) → (x .kind ≡ REQ
     → about m th j q x ≡ false
 unfolding about
 about-dead t x m th j q s r d a =
-    dead-bool (eqb (x .kind) 2) (eqb (x .from) m) (isAnswer (x .kind)) (eqb (x .to) m) _
-    (λ e. d (rw (s (eqb-true (x .kind) 2 e)) r))
+    dead-bool (eqb (x .kind) REQ) (eqb (x .from) m) (isAnswer (x .kind)) (eqb (x .to) m) _
+    (λ e. d (rw (s (eqb-true (x .kind) REQ e)) r))
     (λ e. d (rw (eqb-true (x .to) m e) a))
 
 -- ---- copies
@@ -70,7 +70,7 @@ pub copy-eqs : (j r th k q u : ℕ) → copyIs j r th k q u ≡ true → (j ≡ 
 unfolding copyIs
 copy-eqs j r th k q u e =
     let tail = and-right (eqb j k) (eqb r q && eqb th u) e in
-    (eqb-true j k (and-left (eqb j k) (eqb r q && eqb th u) e), eqb-true r q (and-left (eqb r q) (eqb th u) tail), eqb-true th u (and-right (eqb r q) (eqb th u) tail))
+    (eqb-true j k (and-left (eqb j k) _ e), eqb-true r q (and-left (eqb r q) (eqb th u) tail), eqb-true th u (and-right (eqb r q) (eqb th u) tail))
 
 copy-same : (j r th k q u a b c : ℕ) → copyIs j r th k q u ≡ true → copyIs j r th a b c ≡ copyIs k q u a b c
 copy-same j r th k q u a b c e = let es = copy-eqs j r th k q u e in rw (es .0, es .1, es .2)

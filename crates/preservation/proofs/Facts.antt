@@ -97,7 +97,32 @@ module _ (M E B : ℕ) (x : Message) (g : messageOk M E B x ≡ true) where
   pub no-thief : withThief (x .kind) ≡ false → x .thief ≡ 0
   no-thief w = eqb-true _ _ (either-no (withThief (x .kind)) (ltb (x .thief) M) (eqb (x .thief) 0) (parts .1 .1 .1 .0) w)
 
+  pub message-most : x .replica ≤ B
+  message-most = byBool (withCopy (x .kind)) (λ w. copy-most E B (x .job) (x .replica) (copy-in w)) (λ w. omega (arith, no-copy w .1))
+
 -- ---- a job
+
+-- its place, where it is open or priced
+pub record Place (M : ℕ) (v : Job) : Type 0 where
+  pub moving : v .moving ≤ 1
+  pub holder : v .holder < M
+  pub thief : v .thief < M
+  pub still : v .moving ≡ 0 → v .thief ≡ 0
+
+pub place-facts : (M : ℕ) (v : Job) → placeOk M v ≡ true → Place M v
+place-facts M v g =
+    let a = ltb (v .holder) M in
+    let b = eqb (v .moving) 0 && eqb (v .thief) 0 in
+    let c = eqb (v .moving) 1 && ltb (v .thief) M in
+    let h : v .holder < M = ltb-true _ _ (and-left a (b || c) g) in
+    byOr b c (and-right a (b || c) g)
+    (λ e.
+    let m : v .moving ≡ 0 = eqb-true _ _ (and-left (eqb (v .moving) 0) (eqb (v .thief) 0) e) in
+    let k : v .thief ≡ 0 = eqb-true _ _ (and-right (eqb (v .moving) 0) (eqb (v .thief) 0) e) in
+    record { moving = omega arith; holder = h; thief = omega arith; still = λ n. k })
+    (λ e.
+    let m : v .moving ≡ 1 = eqb-true _ _ (and-left (eqb (v .moving) 1) (ltb (v .thief) M) e) in
+    record { moving = omega arith; holder = h; thief = ltb-true _ _ (and-right (eqb (v .moving) 1) (ltb (v .thief) M) e); still = λ n. absurd (omega arith) })
 
 pub job-is : (M E B j : ℕ) (v : Job) → admittedOk v ≡ true → copyOk E B j (v .replica) ≡ true → placeOk M v ≡ true → jobOk M E B j v ≡ true
 job-is M E B j v a c p = or-right (emptyJob v) _ (and-three (admittedOk v) (copyOk E B j (v .replica)) (placeOk M v) a c p)
@@ -232,6 +257,9 @@ module _ (M al m d x : ℕ) (g : toldOk M al m d x ≡ true) (h : x ≢ 0) where
   pub told-dead : al ≡ 0
   told-dead = eqb-true _ _ (flag .1 .1 .1 .0)
 
+pub told-most : (M al m d x : ℕ) → toldOk M al m d x ≡ true → x ≤ 1
+told-most M al m d x g = byEq x 0 (λ e. omega arith) (λ n. omega (arith, told-is M al m d x g n))
+
 -- ---- a pool's cell
 
 module _ (E B al j x : ℕ) (g : cellOk E B al j x ≡ true) where
@@ -303,8 +331,8 @@ pub record MachineFacts (t : Table) (m : ℕ) (n : Machine) : Type 0 where
 
 -- x is a message in flight
 pub record MessageFacts (t : Table) (x : Message) : Type 0 where
-  pub kind-least : 1 ≤ x .kind
-  pub kind-most : x .kind ≤ 9
+  pub kind-least : FISH ≤ x .kind
+  pub kind-most : x .kind ≤ RESULT
   pub from : x .from < 16
   pub to : x .to < 16
   pub job : x .job < 64

@@ -1,6 +1,7 @@
 pub mod Empty
 pub mod Ok
 pub mod Facts
+pub mod Elements
 pub mod Updates
 pub mod Larger
 pub mod Told

@@ -19,12 +19,12 @@ use Rattle.table.specs.declared.Table.{Table}
 use Rattle.table.specs.Views.{noJob, noMachine, jobAt, nodeAt, poolAt, toldAt, flight}
 use Rattle.table.specs.Parts.{lives}
 use Rattle.table.proofs.Views.{Sized}
-use Rattle.elements.specs.Elements.{copyOk, emptyJob, admittedOk, placeOk, jobOk, reservedOk, runningOk, nodeOk}
+use Rattle.elements.specs.Elements.{copyOk, emptyJob, admittedOk, jobOk, reservedOk, runningOk, nodeOk}
 use Rattle.slots.specs.Slots.{withCopy, withThief, messageOk}
 use Rattle.validity.specs.Validity.{bound}
 use Rattle.preservation.proofs.Empty.{empty-job, empty-machine}
 use Rattle.preservation.proofs.Ok.{Ok, inFlightOk, machines-some, machines-most, entries-most, used-most}
-use Rattle.preservation.proofs.Facts.{JobFacts, MachineFacts, MessageFacts, Facts, copy-job, copy-some, copy-most, bound-pos, kind-some, kind-most, from-in, to-in, to-root, copy-in, thief-in, job-copy, job-place, job-state, node-dead, node-in, node-waits, reserved, runs, told-dead, cell-copy, cell-alive, cell-most, no-copy, no-thief, told-is}
+use Rattle.preservation.proofs.Facts.{JobFacts, MachineFacts, MessageFacts, Facts, copy-job, copy-some, copy-most, bound-pos, kind-some, kind-most, from-in, to-in, to-root, copy-in, thief-in, job-copy, job-place, job-state, node-dead, node-in, node-waits, reserved, runs, told-dead, cell-copy, cell-alive, cell-most, no-copy, no-thief, place-facts, told-most}
 
 -- ---- a copy, or none: job and replica number both 0
 
@@ -43,29 +43,6 @@ copy-one E B j r h c =
     record { job = omega arith; most = copy-most E B j r c; entry = λ n. l; none = λ e. absurd (omega (arith, copy-some E B j r c)) }
 
 -- ---- a job
-
--- the place of a job that is open or priced
-record Place (M : ℕ) (v : Job) : Type 0 where
-  moving : v .moving ≤ 1
-  holder : v .holder < M
-  thief : v .thief < M
-  still : v .moving ≡ 0 → v .thief ≡ 0
-
-place : (M : ℕ) (v : Job) → 0 < M → placeOk M v ≡ true → Place M v
-place M v z g =
-    let a = ltb (v .holder) M in
-    let b = eqb (v .moving) 0 && eqb (v .thief) 0 in
-    let c = eqb (v .moving) 1 && ltb (v .thief) M in
-    let h : v .holder < M = ltb-true _ _ (and-left a (b || c) g) in
-    byOr b c (and-right a (b || c) g)
-    (λ e.
-    let m : v .moving ≡ 0 = eqb-true _ _ (and-left (eqb (v .moving) 0) (eqb (v .thief) 0) e) in
-    let k : v .thief ≡ 0 = eqb-true _ _ (and-right (eqb (v .moving) 0) (eqb (v .thief) 0) e) in
-    record { moving = omega arith; holder = h; thief = omega arith; still = λ n. k })
-    (λ e.
-    let m : v .moving ≡ 1 = eqb-true _ _ (and-left (eqb (v .moving) 1) (ltb (v .thief) M) e) in
-    let k : v .thief < M = ltb-true _ _ (and-right (eqb (v .moving) 1) (ltb (v .thief) M) e) in
-    record { moving = omega arith; holder = h; thief = k; still = λ n. absurd (omega arith) })
 
 -- its state and price
 record State (v : Job) : Type 0 where
@@ -117,7 +94,7 @@ module _ (t : Table) (o : Ok t) where
       (λ e. subst (JobFacts t j) (sym (empty-job v e)) (no-job j))
       (λ e.
       let c = job-copy M E B j v g e in
-      let p = place M v (omega (arith, many)) (job-place M E B j v g e) in
+      let p = place-facts M v (job-place M E B j v g e) in
       let s = state v (job-state M E B j v g e) in
       record {
         state = s .most;
@@ -234,11 +211,6 @@ module _ (t : Table) (o : Ok t) (x : Message) where
 -- ---- the whole table
 
 module _ (t : Table) (s : Sized t) (o : Ok t) where
-  told-one : (m d : ℕ) → m < 16 → d < 16 → toldAt t m d ≤ 1
-  told-one m d h k =
-      byEq (toldAt t m d) 0 (λ e. omega arith)
-      (λ n. omega (arith, told-is (t .machines) (nodeAt t d .alive) m d (toldAt t m d) (o .told m d h k) n))
-
   told-of : (m d : ℕ) → m < 16 → d < 16 → toldAt t m d ≢ 0 → nodeAt t d .alive ≡ 0
   told-of m d h k = told-dead (t .machines) (nodeAt t d .alive) m d (toldAt t m d) (o .told m d h k)
 
@@ -265,7 +237,7 @@ module _ (t : Table) (s : Sized t) (o : Ok t) where
     job = λ j h. job-facts t o j (jobAt t j) (o .job j h);
     machine = λ m h. machine-facts t o m (nodeAt t m) (o .node m h);
     message = every-map (λ x. inFlightOk t x ≡ true) (MessageFacts t) (flight t) (message-facts t o) (o .messages);
-    told = told-one;
+    told = λ m d h k. told-most (t .machines) (nodeAt t d .alive) m d (toldAt t m d) (o .told m d h k);
     told-dead = told-of;
     pool = λ m j h k. cell-most (t .entries) (bound t) (nodeAt t m .alive) j (poolAt t m j) (o .pool m j h k);
     pool-dead = λ m j h k d.

@@ -1,2 +1,1 @@
-pub mod Elements
 pub mod Same

@@ -21,7 +21,7 @@ use Rattle.preservation.proofs.Ok.{Ok, slot, tests, joined, ok}
 use Rattle.preservation.proofs.Facts.{Facts, MessageFacts, no-copy, no-thief, no-price, told-in}
 use Rattle.preservation.proofs.Passed.{facts, message-facts}
 use Rattle.row_nine.specs.RowNine.{Numbers, States, Unused, Replicas, RowNine}
-use Rattle.row_nine.proofs.Elements.{job-passes, node-reserved, node-runs, node-passes, told-passes, cell-passes, kind-passes, ends-pass, carries-passes, thief-passes, message-passes}
+use Rattle.preservation.proofs.Elements.{job-passes, node-reserved, node-runs, node-passes, told-passes, cell-passes, kind-passes, ends-pass, carries-passes, thief-passes, message-passes}
 
 -- ---- row 9 is enough
 

@@ -10,7 +10,7 @@ use mathlib.Core.Bool.{true, false}
 use Rattle.pricer.specs.Range.{inRange}
 use Rattle.table.specs.declared.Table.{Table}
 use Rattle.table.specs.Views.{noJob, noMachine, noMessage, bondAt, jobAt, nodeAt, poolAt, toldAt, messageAt}
-use Rattle.table.specs.Parts.{RESULT}
+use Rattle.table.specs.Parts.{FISH, RESULT}
 use Rattle.elements.specs.Elements.{emptyBond}
 use Rattle.slots.specs.Slots.{withCopy, withThief, toRoot}
 use Rattle.validity.specs.Validity.{bound}
@@ -40,7 +40,7 @@ pub record States (t : Table) : Type 0 where
   pub moving : (j : ℕ) → j < 64 → jobAt t j .moving ≤ 1
   pub alive : (m : ℕ) → m < 16 → nodeAt t m .alive ≤ 1
   pub told : (m d : ℕ) → m < 16 → d < 16 → toldAt t m d ≤ 1
-  pub kinds : (i : ℕ) → i < t .«in_flight» → (1 ≤ messageAt t i .kind) × (messageAt t i .kind ≤ 9)
+  pub kinds : (i : ℕ) → i < t .«in_flight» → (FISH ≤ messageAt t i .kind) × (messageAt t i .kind ≤ RESULT)
 
 -- "term outside its range"
 abbrev pub InRange : Table → Type 0

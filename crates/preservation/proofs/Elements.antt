@@ -1,4 +1,4 @@
--- One element at a time: the facts of row 9 about it make its test pass. M is the machine count, E the entry count, B the largest replica number allowed.
+-- One element at a time: what makes its test of check 9 pass, in plain numbers; proofs/Facts.antt has the contrary. M is the machine count, E the entry count, B the largest replica number allowed.
 -- Assumes nothing.
 use Prim.Native.Nat.{ℕ, _≤_, _<_}
 use mathlib.Core.Path.{_≡_, refl}
@@ -14,9 +14,10 @@ use Rattle.table.specs.declared.Job.{Job}
 use Rattle.table.specs.declared.Machine.{Machine}
 use Rattle.table.specs.declared.Message.{Message}
 use Rattle.table.specs.Views.{noJob, noMachine}
+use Rattle.table.specs.Parts.{FISH, RESULT}
 use Rattle.elements.specs.Elements.{copyOk, admittedOk, placeOk, jobOk, reservedOk, runningOk, nodeOk, toldOk, cellOk}
 use Rattle.slots.specs.Slots.{kindOk, endsOk, carriesOk, thiefOk, withCopy, withThief, toRoot, messageOk}
 use Rattle.preservation.proofs.Facts.{copy-is, job-is, node-is}
 
 unless : (w c : Bool) → (w ≡ true → c ≡ true) → not w || c ≡ true
 unless true c f = f refl
@@ -29,8 +30,8 @@ before a b f = byBool (ltb a b) (λ e. ltb-true a b e) (λ e. absurd (f (ltb-fal
 -- ---- a job
 
 module _ (M E B j : ℕ) (v : Job) where
-  place : v .holder < M → v .moving ≤ 1 → (v .moving ≢ 0 → v .thief < M) → (v .moving ≡ 0 → v .thief ≡ 0) → placeOk M v ≡ true
-  place h l f g =
+  pub place-passes : v .holder < M → v .moving ≤ 1 → (v .moving ≢ 0 → v .thief < M) → (v .moving ≡ 0 → v .thief ≡ 0) → placeOk M v ≡ true
+  place-passes h l f g =
       and-both (ltb (v .holder) M) _ (lt-ltb _ _ h)
       (byEq (v .moving) 0
       (λ e. or-left (eqb (v .moving) 0 && eqb (v .thief) 0) _ (and-both (eqb (v .moving) 0) (eqb (v .thief) 0) (eq-eqb _ _ e) (eq-eqb _ _ (g e))))
@@ -47,7 +48,7 @@ module _ (M E B j : ℕ) (v : Job) where
   job-passes st mo ho th re en un pr sl bo =
       byEq (v .state) 0
       (λ e. let q = un e in simp q)
-      (λ e. job-is M E B j v (admitted e st pr) (copy-is E B j (v .replica) (before j E (λ l. e (en l))) (re e) bo) (place (ho e) mo th sl))
+      (λ e. job-is M E B j v (admitted e st pr) (copy-is E B j (v .replica) (before j E (λ l. e (en l))) (re e) bo) (place-passes (ho e) mo th sl))
 
 -- ---- a machine
 
@@ -97,10 +98,10 @@ cell-passes E B al j x f g l =
 -- ---- a message
 
 module _ (M E B : ℕ) (x : Message) where
-  pub kind-passes : 1 ≤ x .kind → x .kind ≤ 9 → (x .kind ≢ 9 → x .price ≡ 0) → kindOk x ≡ true
+  pub kind-passes : FISH ≤ x .kind → x .kind ≤ RESULT → (x .kind ≢ RESULT → x .price ≡ 0) → kindOk x ≡ true
   kind-passes a b f =
-      and-three (leb 1 (x .kind)) (leb (x .kind) 9) (eqb (x .kind) 9 || eqb (x .price) 0) (le-leb _ _ a) (le-leb _ _ b)
-      (byEq (x .kind) 9 (λ e. or-left (eqb (x .kind) 9) _ (eq-eqb _ _ e)) (λ e. or-right (eqb (x .kind) 9) _ (eq-eqb _ _ (f e))))
+      and-three (leb FISH (x .kind)) (leb (x .kind) RESULT) (eqb (x .kind) RESULT || eqb (x .price) 0) (le-leb _ _ a) (le-leb _ _ b)
+      (byEq (x .kind) RESULT (λ e. or-left (eqb (x .kind) RESULT) _ (eq-eqb _ _ e)) (λ e. or-right (eqb (x .kind) RESULT) _ (eq-eqb _ _ (f e))))
 
   pub ends-pass : x .from < M → x .to < M → (toRoot (x .kind) ≡ true → x .to ≡ 0) → endsOk M x ≡ true
   ends-pass a b f =
