@@ -77,7 +77,8 @@ module _ (t : Table) (w : Whole t) (e : List ℕ) where
   Counted x = deaths (x .table) ≡ deaths t + cond (eqb (x .number) 0 && eqb (codeOf e) 6) 1 0
 
   -- an event of another kind; the machine count stays
-  quiet : (u : Table) (k : ℕ) → codeOf e ≡ k → eqb k 6 ≡ false → ((m : ℕ) → nodeAt u m .alive ≡ nodeAt t m .alive) → u .machines ≡ t .machines → Counted (accept u)
+  quiet : (u : Table) (k : ℕ) → codeOf e ≡ k → eqb k 6 ≡ false → ((m : ℕ) → nodeAt u m .alive ≡ nodeAt t m .alive)
+      → u .machines ≡ t .machines → Counted (accept u)
   quiet u k c n alive same =
       let z : eqb (codeOf e) 6 ≡ false = ap (λ (i : ℕ). eqb i 6) c ∙ n in
       rw z (omega (arith, deaths-same t u same alive))
