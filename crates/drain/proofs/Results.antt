@@ -75,7 +75,9 @@ module _ (t : Table) (a : ℕ) (q : Quiet t) (al : a < 16) (runs : nodeAt t a .�
   r = withNode t a (running (nodeAt t a) 0 0)
 
   lives : nodeAt t a .alive ≡ 1
-  lives = byEq (nodeAt t a .alive) 1 (λ e. e) (λ e. absurd (runs (ap (λ (n : Machine). n .«running_replica») (q .whole .facts .machine a al .dead (omega (arith, q .whole .facts .machine a al .alive))))))
+  lives =
+      let f = q .whole .facts .machine a al in
+      byEq (nodeAt t a .alive) 1 (λ e. e) (λ e. absurd (runs (ap (λ (n : Machine). n .«running_replica») (f .dead (omega (arith, f .alive))))))
 
   r-sized : Sized r
   unfolding r

@@ -3,9 +3,8 @@
 use mathlib.Core.Path.{_≡_, sym, ap, _∙_}
 use mathlib.Core.Logic.{_≢_}
 use mathlib.Core.List.{[]}
-use Prim.Native.Nat.{ℕ, _+_, _*_, _<_}
+use Prim.Native.Nat.{ℕ, _<_}
 use native.Mathlib.Omega.{arith}
-use lib.ListN.{replicate, getD-replicate}
 use Rattle.lists.proofs.Count.{ind}
 use Rattle.table.specs.declared.Job.{Job}
 use Rattle.table.specs.declared.Table.{Table}
@@ -23,18 +22,6 @@ pub record Fresh (t : Table) : Type 0 where
   pub pool : (m j : ℕ) → m < 16 → j < 64 → poolAt t m j ≡ 0
   pub reserved : (m : ℕ) → m < 16 → nodeAt t m .«reserved_replica» ≡ 0
   pub running : (m : ℕ) → m < 16 → nodeAt t m .«running_replica» ≡ 0
-
--- the arrays of jobs and pools are all 0, nothing is in flight, and no machine has a copy
-pub fresh-arrays : (t : Table) → t .jobs ≡ replicate 64 noJob → t .pools ≡ replicate 1024 0 → t .«in_flight» ≡ 0
-    → ((m : ℕ) → m < 16 → nodeAt t m .«reserved_replica» ≡ 0) → ((m : ℕ) → m < 16 → nodeAt t m .«running_replica» ≡ 0) → Fresh t
-unfolding jobAt poolAt flight
-fresh-arrays t jobs pools none reserved running = record {
-  message = rw none;
-  job = λ j l. rw jobs (getD-replicate 64 j noJob noJob l);
-  pool = λ m j h l. rw pools (getD-replicate 1024 (m * 64 + j) 0 0 (omega arith));
-  reserved = reserved;
-  running = running;
-}
 
 module _ (t : Table) (f : Fresh t) where
   -- no job is open or priced

@@ -10,11 +10,11 @@ use Rattle.table.specs.Views.{messageAt}
 use Rattle.table.specs.Messages.{pull}
 use Rattle.table.proofs.Messages.{sized-pull}
 use Rattle.preservation.proofs.Ok.{inFlightOk}
+use Rattle.preservation.proofs.Accepted.{in-flight}
 use Rattle.preservation.proofs.Passed.{facts, message-facts}
 use Rattle.preservation.proofs.Updates.{wide, ok-pull}
 use Rattle.preservation.proofs.Sizes.{used-pull}
 use Rattle.invariant.proofs.State.{Whole, Hand}
-use Rattle.invariant.proofs.Flight.{every-taken}
 
 -- a message passes as before once another is taken off
 still : (t : Table) (k : ℕ) (x : Message) → inFlightOk t x ≡ true → inFlightOk (pull t k) x ≡ true
@@ -26,10 +26,9 @@ hand t k w l =
     let s = w .sized in
     let z = sized-pull t s k l in
     let o = ok-pull t s (w .ok) k l in
-    let f = every-taken t k s l (λ x. inFlightOk t x ≡ true) (w .ok .messages) .0 in
     record {
       sized = z;
       room = omega (arith, used-pull t k, s .used);
       facts = facts (pull t k) z o;
-      message = message-facts (pull t k) o (messageAt t k) (still t k (messageAt t k) f);
+      message = message-facts (pull t k) o (messageAt t k) (still t k (messageAt t k) (in-flight t s (w .ok) k l));
     }

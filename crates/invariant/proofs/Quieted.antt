@@ -47,7 +47,8 @@ module _ (t : Table) (a b : ℕ) where
 module _ (t : Table) (a b : ℕ) where
   pub flight-quieted : flight (quieted t a b) ≡ filter (notFrom b a) (flight t)
   unfolding informed returned enter
-  flight-quieted = same-quieted flight t a b (λ u. simp views) (λ u v. simp views) ∙ flight-told (sift t (notFrom b a)) a b 1 ∙ flight-sift t (notFrom b a)
+  flight-quieted =
+      same-quieted flight t a b (λ u. simp views) (λ u v. simp views) ∙ flight-told (sift t (notFrom b a)) a b 1 ∙ flight-sift t (notFrom b a)
 
   told-informed : (m d : ℕ) → toldAt (quieted t a b) m d ≡ toldAt (informed t a b) m d
   unfolding returned enter
@@ -71,7 +72,9 @@ module _ (t : Table) (a b : ℕ) where
   node-quieted s l =
       let i = informed t a b in
       node-unwaited (reclaimed i a b) a b (sized-reclaimed i (sized-informed t s a b) a b) l
-      ∙ ap (λ (n : Machine). unwaitedNode n b) (node-reclaimed i a b (sized-informed t s a b) l ∙ ap (λ (n : Machine). reclaimedNode n b) (node-informed t a b a))
+      ∙ ap (λ (n : Machine). unwaitedNode n b) (node-reclaimed i a b (sized-informed t s a b) l
+      ∙ ap (λ (n : Machine). reclaimedNode n b) (node-informed t a b a))
 
   pub node-quieted-other : (m : ℕ) → m ≢ a → nodeAt (quieted t a b) m ≡ nodeAt t m
-  node-quieted-other m e = same-quieted (λ u. nodeAt u m) t a b (λ u. node-returned-other u a m e) (λ u v. node-other u a m v e) ∙ node-informed t a b m
+  node-quieted-other m e =
+      same-quieted (λ u. nodeAt u m) t a b (λ u. node-returned-other u a m e) (λ u v. node-other u a m v e) ∙ node-informed t a b m

@@ -22,7 +22,8 @@ module _ (s : Table) (x : Message) (h : Hand s x) (c : Conserved s (x ∷ flight
     (cap : (m : ℕ) → m < 16 → nodeAt s m .«reserved_replica» ≤ jobAt s (nodeAt s m .«reserved_job») .replica) (g : Trip s (x ∷ flight s)) where
   trip-handle : Trips (handle s x)
   trip-handle =
-      by-kind Trips s x (λ n. absurd (n (h .message .kind-least) (h .message .kind-most))) (trip-fish s x h g) (trip-req s x h g) (trip-auth s x h c cap g) (trip-denied s x h c cap g) (trip-obsolete s x h c cap g)
+      by-kind Trips s x (λ n. absurd (n (h .message .kind-least) (h .message .kind-most)))
+      (trip-fish s x h g) (trip-req s x h g) (trip-auth s x h c cap g) (trip-denied s x h c cap g) (trip-obsolete s x h c cap g)
       (trip-schedule s x h g) (trip-ack s x h g) (trip-nowork s x h g) (trip-result s x h g)
 
 pub trip-delivered : (t : Table) (k : ℕ) → Whole t → k < t .«in_flight» → Trips (delivered t k)

@@ -90,8 +90,3 @@ either-no false c d e f = e
 pub either-is : (w c d : Bool) → (w ≡ true → c ≡ true) → (w ≡ false → d ≡ true) → w && c || not w && d ≡ true
 either-is true c d f g = rw (f refl)
 either-is false c d f g = rw (g refl)
-
-pub either-map : (w c d x : Bool) → (c ≡ true → x ≡ true) → w && c || not w && d ≡ true → w && x || not w && d ≡ true
-either-map true true d x f e = rw (f refl)
-either-map true false d x f e = absurd (true≢false (sym e))
-either-map false c d x f e = e

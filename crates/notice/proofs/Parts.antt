@@ -41,8 +41,8 @@ module _ {A : Type 0} (f : Table → A) (t : Table) (a b : ℕ) where
   same-unwaited e = cond-elim (λ u. f u ≡ f t) (eqb (nodeAt t a .waits) (b + 1)) _ t e refl
 
 -- one that is neither a pool's nor machine a's
-pub same-quieted : {A : Type 0} (f : Table → A) (t : Table) (a b : ℕ) → ((u : Table) → f (returned u a) ≡ f u) → ((u : Table) (v : Machine) → f (withNode u a v) ≡ f u)
-    → f (quieted t a b) ≡ f (informed t a b)
+pub same-quieted : {A : Type 0} (f : Table → A) (t : Table) (a b : ℕ) → ((u : Table) → f (returned u a) ≡ f u)
+    → ((u : Table) (v : Machine) → f (withNode u a v) ≡ f u) → f (quieted t a b) ≡ f (informed t a b)
 unfolding quieted
 same-quieted f t a b p q = same-unwaited f (reclaimed (informed t a b) a b) a b (q _ _) ∙ same-reclaimed f (informed t a b) a b (p (informed t a b))
 

@@ -33,7 +33,7 @@ use Rattle.preservation.proofs.Handled.{ok-enter, ok-waiting, ok-handle
 -- ---- a message in flight, by its slot
 
 module _ (t : Table) (s : Sized t) (o : Ok t) (i : ℕ) (h : i < t .«in_flight») where
-  in-flight : inFlightOk t (messageAt t i) ≡ true
+  pub in-flight : inFlightOk t (messageAt t i) ≡ true
   in-flight =
       let n = length-flight t s in
       let e : inFlightOk t (getD (flight t) i noMessage) ≡ true = every-at (λ x. inFlightOk t x ≡ true) (flight t) i noMessage (omega arith) (o .messages) in

@@ -140,7 +140,9 @@ module _ (P : ℕ → Table → Type 0) (c : Closed P) where
 
     pub closed-reclaimed : (a b : ℕ) → P 0 t → P 0 (reclaimed t a b)
     unfolding reclaimed
-    closed-reclaimed a b p = cond-elim (P 0) (not (eqb (nodeAt t a .«reserved_replica») 0) && eqb (nodeAt t a .«reserved_thief») b) _ t (closed-returned P (c .local) 0 t a p) p
+    closed-reclaimed a b p =
+        cond-elim (P 0) (not (eqb (nodeAt t a .«reserved_replica») 0) && eqb (nodeAt t a .«reserved_thief») b) _ t
+        (closed-returned P (c .local) 0 t a p) p
 
     pub closed-reissueOne : (v : Job) (b j : ℕ) → P 0 t → P 0 (reissueOne v b j t)
     unfolding reissueOne

@@ -1,4 +1,5 @@
--- One element at a time: what makes its test of check 9 pass, in plain numbers; proofs/Facts.antt has the contrary. M is the machine count, E the entry count, B the largest replica number allowed.
+-- One element at a time: what makes its test of check 9 pass, in plain numbers; proofs/Facts.antt has the contrary.
+-- M is the machine count, E the entry count, B the largest replica number allowed.
 -- Assumes nothing.
 use Prim.Native.Nat.{ℕ, _≤_, _<_}
 use mathlib.Core.Path.{_≡_, refl}
@@ -87,7 +88,8 @@ told-passes M al m d x l f g =
     byEq x 0
     (λ e. or-left (eqb x 0) _ (eq-eqb _ _ e))
     (λ e. or-right (eqb x 0) _
-    (chain-joined (eqb x 1) (ltb m M ∷ ltb d M ∷ eqb al 0 ∷ []) (eq-eqb x 1 (omega arith)) (lt-ltb _ _ (f e .0), (lt-ltb _ _ (f e .1), (eq-eqb _ _ (g e), tt)))))
+    (chain-joined (eqb x 1) (ltb m M ∷ ltb d M ∷ eqb al 0 ∷ []) (eq-eqb x 1 (omega arith))
+    (lt-ltb _ _ (f e .0), (lt-ltb _ _ (f e .1), (eq-eqb _ _ (g e), tt)))))
 
 pub cell-passes : (E B al j x : ℕ) → (x ≢ 0 → al ≡ 1) → (x ≢ 0 → j < E) → x ≤ B → cellOk E B al j x ≡ true
 cell-passes E B al j x f g l =

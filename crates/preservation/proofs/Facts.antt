@@ -122,7 +122,8 @@ place-facts M v g =
     record { moving = omega arith; holder = h; thief = omega arith; still = λ n. k })
     (λ e.
     let m : v .moving ≡ 1 = eqb-true _ _ (and-left (eqb (v .moving) 1) (ltb (v .thief) M) e) in
-    record { moving = omega arith; holder = h; thief = ltb-true _ _ (and-right (eqb (v .moving) 1) (ltb (v .thief) M) e); still = λ n. absurd (omega arith) })
+    let k : v .thief < M = ltb-true _ _ (and-right (eqb (v .moving) 1) (ltb (v .thief) M) e) in
+    record { moving = omega arith; holder = h; thief = k; still = λ n. absurd (omega arith) })
 
 pub job-is : (M E B j : ℕ) (v : Job) → admittedOk v ≡ true → copyOk E B j (v .replica) ≡ true → placeOk M v ≡ true → jobOk M E B j v ≡ true
 job-is M E B j v a c p = or-right (emptyJob v) _ (and-three (admittedOk v) (copyOk E B j (v .replica)) (placeOk M v) a c p)
@@ -170,10 +171,12 @@ job-opened M E B j r a c = rw (c, lt-ltb 0 M a)
 
 -- ---- a machine
 
-pub node-is : (M E B m : ℕ) (n : Machine) → m < M → n .alive ≡ 1 → n .waits ≤ M → reservedOk M E B n ≡ true → runningOk E B n ≡ true → nodeOk M E B m n ≡ true
+pub node-is : (M E B m : ℕ) (n : Machine) → m < M → n .alive ≡ 1 → n .waits ≤ M → reservedOk M E B n ≡ true → runningOk E B n ≡ true
+    → nodeOk M E B m n ≡ true
 node-is M E B m n a b w r u =
     or-right (emptyNode n) _
-    (chain-joined (ltb m M) (eqb (n .alive) 1 ∷ leb (n .waits) M ∷ reservedOk M E B n ∷ runningOk E B n ∷ []) (lt-ltb m M a) (eq-eqb _ _ b, (le-leb _ _ w, (r, (u, tt)))))
+    (chain-joined (ltb m M) (eqb (n .alive) 1 ∷ leb (n .waits) M ∷ reservedOk M E B n ∷ runningOk E B n ∷ [])
+    (lt-ltb m M a) (eq-eqb _ _ b, (le-leb _ _ w, (r, (u, tt)))))
 
 -- one that is not alive is empty
 pub node-dead : (M E B m : ℕ) (n : Machine) → nodeOk M E B m n ≡ true → n .alive ≢ 1 → emptyNode n ≡ true

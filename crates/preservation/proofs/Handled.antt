@@ -13,7 +13,7 @@ use Rattle.table.specs.declared.Machine.{Machine}
 use Rattle.table.specs.declared.Message.{Message}
 use Rattle.table.specs.Views.{jobAt, nodeAt, poolAt, toldAt, withJob, withNode, withPool, enter}
 use Rattle.table.specs.Messages.{lowest}
-use Rattle.table.specs.Parts.{moved, placed, priced, reserve, release, waiting, copyIs, reserves, returned, message}
+use Rattle.table.specs.Parts.{moved, placed, priced, reserve, release, waiting, copyIs, reserves, returned, message, REQ, AUTH, DENIED, OBSOLETE, SCHEDULE, ACK, RESULT}
 use Rattle.table.proofs.Views.{Sized, views, sized-job, sized-node, sized-pool}
 use Rattle.elements.specs.Elements.{copyOk}
 use Rattle.slots.specs.Slots.{messageOk, withCopy}
@@ -147,7 +147,7 @@ module _ (t : Table) (x : Message) (s : Sized t) (o : Ok t) (l : t .«in_flight�
 
   -- ---- AUTH, DENIED, OBSOLETE
 
-  pub ok-auth : x .kind ≡ 3 → Ok (onAuth t x)
+  pub ok-auth : x .kind ≡ AUTH → Ok (onAuth t x)
   unfolding onAuth message
   ok-auth k =
       let w : withCopy (x .kind) ≡ true = rw k in
@@ -161,7 +161,7 @@ module _ (t : Table) (x : Message) (s : Sized t) (o : Ok t) (l : t .«in_flight�
       (simp wide (rw (lt-ltb b M to-m, lt-ltb (x .thief) M th, copy-in M E B x g w)))))
       (λ a. rw (a, onAuth) o)
 
-  pub ok-denied : x .kind ≡ 4 → Ok (onDenied t x)
+  pub ok-denied : x .kind ≡ DENIED → Ok (onDenied t x)
   unfolding onDenied
   ok-denied k =
       let th : x .thief < M = thief-in M E B x g (rw k) in
@@ -172,7 +172,7 @@ module _ (t : Table) (x : Message) (s : Sized t) (o : Ok t) (l : t .«in_flight�
       (simp used-returned l) (simp machines-returned to-m) (simp machines-returned th)))
       (λ a. rw (a, onDenied) o)
 
-  pub ok-obsolete : x .kind ≡ 5 → Ok (onObsolete t x)
+  pub ok-obsolete : x .kind ≡ OBSOLETE → Ok (onObsolete t x)
   unfolding onObsolete
   ok-obsolete k =
       let th : x .thief < M = thief-in M E B x g (rw k) in
@@ -185,7 +185,7 @@ module _ (t : Table) (x : Message) (s : Sized t) (o : Ok t) (l : t .«in_flight�
 
   -- ---- SCHEDULE, NOWORK
 
-  pub ok-schedule : x .kind ≡ 6 → Ok (onSchedule t x)
+  pub ok-schedule : x .kind ≡ SCHEDULE → Ok (onSchedule t x)
   unfolding onSchedule message
   ok-schedule k =
       let c = copy-in M E B x g (rw k) in
@@ -205,7 +205,7 @@ module _ (t : Table) (x : Message) (s : Sized t) (o : Ok t) (l : t .«in_flight�
 
   -- ---- ACK, RESULT
 
-  pub ok-ack : x .kind ≡ 7 → Ok (onAck t x)
+  pub ok-ack : x .kind ≡ ACK → Ok (onAck t x)
   unfolding onAck
   ok-ack k =
       let h = job-64 (rw k) in
@@ -219,7 +219,7 @@ module _ (t : Table) (x : Message) (s : Sized t) (o : Ok t) (l : t .«in_flight�
       rw (a, onAck) (ok-job t s o j (placed v (x .from)) h (job-placed M E B j v (o .job j h) (state-job M E B j v (λ z. omega arith)) (x .from) from-m)))
       (λ a. rw (a, onAck) o)
 
-  pub ok-result : x .kind ≡ 9 → Ok (onResult t x)
+  pub ok-result : x .kind ≡ RESULT → Ok (onResult t x)
   unfolding onResult
   ok-result k =
       let h = job-64 (rw k) in
@@ -244,7 +244,7 @@ module _ (t : Table) (x : Message) (s : Sized t) (o : Ok t) (l : t .«in_flight�
   ok-reply n = ok-send t s o (message n 0 (x .from) (x .job) (x .replica) (x .thief)) (λ e. l)
 
 module _ (t : Table) (x : Message) (s : Sized t) (o : Ok t) (l : t .«in_flight» < 128)
-    (g : messageOk (t .machines) (t .entries) (bound t) x ≡ true) (k : x .kind ≡ 2) where
+    (g : messageOk (t .machines) (t .entries) (bound t) x ≡ true) (k : x .kind ≡ REQ) where
   pub ok-req : Ok (onReq t x)
   unfolding onReq message
   ok-req =
@@ -260,15 +260,15 @@ module _ (t : Table) (x : Message) (s : Sized t) (o : Ok t) (l : t .«in_flight�
       let ef = lt-ltb (x .from) M (from-in M E B x g) in
       let et = lt-ltb (x .thief) M th in
       byBool (eqb (v .state) 2 || not (eqb (v .replica) (x .replica)))
-      (λ a. rw (a, onReq) (ok-reply t x s o l 5 (rw (e0, ef, c, et))))
+      (λ a. rw (a, onReq) (ok-reply t x s o l OBSOLETE (rw (e0, ef, c, et))))
       (λ a. byBool (not (eqb (toldAt t 0 (x .thief)) 0) || not (eqb (v .moving) 0))
-      (λ b. rw (a, b, onReq) (ok-reply t x s o l 4 (rw (e0, ef, c, et))))
+      (λ b. rw (a, b, onReq) (ok-reply t x s o l DENIED (rw (e0, ef, c, et))))
       (λ b.
       let re = current (eqb (v .state) 2) (v .replica) (x .replica) a in
       let w = moved v (x .from) (x .thief) in
       let n = some-job M E B j v (omega (arith, copy-some E B j (x .replica) c)) in
       let uo : Ok (withJob t j w) = ok-job t s o j w h (job-moved M E B j v (o .job j h) n (x .from) (x .thief) (from-in M E B x g) th) in
-      rw (a, b, onReq) (ok-reply (withJob t j w) x (sized-job t j w s) uo (simp views l) 3 (simp wide (rw (e0, ef, c, et))))))
+      rw (a, b, onReq) (ok-reply (withJob t j w) x (sized-job t j w s) uo (simp views l) AUTH (simp wide (rw (e0, ef, c, et))))))
 
 -- ---- by kind
 

@@ -61,7 +61,8 @@ module _ (M N E B C : ℕ) (w : M ≤ N) (h : B ≤ C) where
 
   pub told-up : (al m d x : ℕ) → toldOk M al m d x ≡ true → toldOk N al m d x ≡ true
   told-up al m d x g =
-      told-passes N al m d x (told-most M al m d x g) (λ n. let p = told-in M al m d x g n in (below m (p .0), below d (p .1))) (told-dead M al m d x g)
+      told-passes N al m d x (told-most M al m d x g)
+      (λ n. let p = told-in M al m d x g n in (below m (p .0), below d (p .1))) (told-dead M al m d x g)
 
   pub message-up : (x : Message) → messageOk M E B x ≡ true → messageOk N E C x ≡ true
   message-up x g =

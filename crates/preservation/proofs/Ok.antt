@@ -121,10 +121,12 @@ tests t e =
       bond = λ j h. all-at (λ j. bondOk (t .entries) j (bondAt t j)) 64 j (p .1 .0) h;
       job = λ j h. all-at (λ j. jobOk (t .machines) (t .entries) (bound t) j (jobAt t j)) 64 j (p .1 .1 .0) h;
       node = λ m h. all-at (λ m. nodeOk (t .machines) (t .entries) (bound t) m (nodeAt t m)) 16 m (p .1 .1 .1 .0) h;
-      pool = λ m j h k. all-at (λ j. cellOk (t .entries) (bound t) (nodeAt t m .alive) j (poolAt t m j)) 64 j (all-at (poolRow t (bound t)) 16 m (p .1 .1 .1 .1 .0) h) k;
+      pool = λ m j h k. all-at (λ j. cellOk (t .entries) (bound t) (nodeAt t m .alive) j (poolAt t m j)) 64 j
+          (all-at (poolRow t (bound t)) 16 m (p .1 .1 .1 .1 .0) h) k;
       slot = λ i h. all-at (slot t) 128 i (p .1 .1 .1 .1 .1 .0) h;
       root = p .1 .1 .1 .1 .1 .1 .0;
-      told = λ m d h k. all-at (λ d. toldOk (t .machines) (nodeAt t d .alive) m d (toldAt t m d)) 16 d (all-at (toldRow t) 16 m (p .1 .1 .1 .1 .1 .1 .1 .0) h) k;
+      told = λ m d h k. all-at (λ d. toldOk (t .machines) (nodeAt t d .alive) m d (toldAt t m d)) 16 d
+          (all-at (toldRow t) 16 m (p .1 .1 .1 .1 .1 .1 .1 .0) h) k;
     }
 
 pub joined : (t : Table) → Tests t → tableOk t ≡ true
@@ -134,10 +136,12 @@ joined t p =
       all-intro (λ j. bondOk (t .entries) j (bondAt t j)) 64 (p .bond), (
       all-intro (λ j. jobOk (t .machines) (t .entries) (bound t) j (jobAt t j)) 64 (p .job), (
       all-intro (λ m. nodeOk (t .machines) (t .entries) (bound t) m (nodeAt t m)) 16 (p .node), (
-      all-intro (poolRow t (bound t)) 16 (λ m h. all-intro (λ j. cellOk (t .entries) (bound t) (nodeAt t m .alive) j (poolAt t m j)) 64 (λ j k. p .pool m j h k)), (
+      all-intro (poolRow t (bound t)) 16 (λ m h.
+      all-intro (λ j. cellOk (t .entries) (bound t) (nodeAt t m .alive) j (poolAt t m j)) 64 (λ j k. p .pool m j h k)), (
       all-intro (slot t) 128 (p .slot), (
       p .root, (
-      all-intro (toldRow t) 16 (λ m h. all-intro (λ d. toldOk (t .machines) (nodeAt t d .alive) m d (toldAt t m d)) 16 (λ d k. p .told m d h k)), tt)))))))
+      all-intro (toldRow t) 16 (λ m h.
+      all-intro (λ d. toldOk (t .machines) (nodeAt t d .alive) m d (toldAt t m d)) 16 (λ d k. p .told m d h k)), tt)))))))
 
 module _ (t : Table) (s : Sized t) where
   pub ok : tableOk t ≡ true → Ok t

@@ -3,13 +3,13 @@
 use Prim.Native.Nat.{ℕ, _≤_, _<_}
 use mathlib.Core.Path.{_≡_}
 use mathlib.Core.Logic.{_≢_}
-use mathlib.Core.Bool.{true, _&&_}
+use mathlib.Core.Bool.{true}
 use mathlib.Core.List.{[], _∷_}
 use native.Mathlib.Omega.{arith}
-use borrow.Author.Tests.{ltb-true, leb-true, leb-false, le-leb, lt-leb, lt-ltb, ltb-false, eq-eqb, le-ltb}
+use borrow.Author.Tests.{ltb-true, leb-true, leb-false, le-leb, lt-ltb, ltb-false, eq-eqb, le-ltb}
 use lib.Dec.{eqb, leb, ltb}
 use Rattle.lists.proofs.Chains.{chain-joined}
-use Rattle.lists.proofs.Cases.{byBool, byEq, and-right, and-both}
+use Rattle.lists.proofs.Cases.{byBool, byEq, and-both}
 use Rattle.table.specs.declared.Table.{Table}
 use Rattle.table.specs.Views.{noMessage, bondAt, jobAt, nodeAt, poolAt, toldAt, messageAt}
 use Rattle.table.proofs.Views.{Sized}
@@ -19,6 +19,7 @@ use Rattle.validity.specs.Validity.{sizesOk, bound, tableOk}
 use Rattle.preservation.proofs.Empty.{empty-message}
 use Rattle.preservation.proofs.Ok.{Ok, slot, tests, joined, ok}
 use Rattle.preservation.proofs.Facts.{Facts, MessageFacts, no-copy, no-thief, no-price, told-in}
+use Rattle.preservation.proofs.Accepted.{in-flight, slot-message}
 use Rattle.preservation.proofs.Passed.{facts, message-facts}
 use Rattle.row_nine.specs.RowNine.{Numbers, States, Unused, Replicas, RowNine}
 use Rattle.preservation.proofs.Elements.{job-passes, node-reserved, node-runs, node-passes, told-passes, cell-passes, kind-passes, ends-pass, carries-passes, thief-passes, message-passes}
@@ -75,7 +76,8 @@ module _ (t : Table) (r : RowNine t) where
       (thief-passes (t .machines) (t .entries) (bound t) x (r .numbers .thieves i l) (r .unused .thieves i l)))))
 
   pub suffices : tableOk t ≡ true
-  suffices = joined t record { sizes = sizes; bond = bond; job = job; node = node; pool = pool; slot = message; root = eq-eqb _ _ (r .root); told = told }
+  suffices =
+      joined t record { sizes = sizes; bond = bond; job = job; node = node; pool = pool; slot = message; root = eq-eqb _ _ (r .root); told = told }
 
 -- ---- and needed
 
@@ -92,16 +94,11 @@ module _ (t : Table) (s : Sized t) (e : tableOk t ≡ true) where
       let g : emptyMessage (messageAt t i) ≡ true = rw (le-leb (t .«in_flight») i l) at c in
       empty-message (messageAt t i) g
 
-  used : (i : ℕ) → i < t .«in_flight» → eqb (nodeAt t (messageAt t i .to) .alive) 1 && messageOk (t .machines) (t .entries) (bound t) (messageAt t i) ≡ true
-  used i l =
-      let c = tests t e .slot i (omega (arith, s .used)) in
-      rw (lt-leb (t .«in_flight») i l) at c
-
   said : (i : ℕ) → i < t .«in_flight» → MessageFacts t (messageAt t i)
-  said i l = message-facts t o (messageAt t i) (used i l)
+  said i l = message-facts t o (messageAt t i) (in-flight t s o i l)
 
-  in-flight : (i : ℕ) → i < t .«in_flight» → messageOk (t .machines) (t .entries) (bound t) (messageAt t i) ≡ true
-  in-flight i l = and-right (eqb (nodeAt t (messageAt t i .to) .alive) 1) _ (used i l)
+  passed : (i : ℕ) → i < t .«in_flight» → messageOk (t .machines) (t .entries) (bound t) (messageAt t i) ≡ true
+  passed = slot-message t s o
 
   -- a machine that is not alive is none
   asleep : (m : ℕ) → m < 16 → nodeAt t m .alive ≢ 1 → nodeAt t m .alive ≡ 0
@@ -143,9 +140,9 @@ module _ (t : Table) (s : Sized t) (e : tableOk t ≡ true) where
     pool-dead = λ m j h k n. let a = f .machine m h .alive in byEq (nodeAt t m .alive) 0 (λ z. absurd (n (f .pool-dead m j h k z))) (λ z. omega arith);
     unreserved = λ m h. f .machine m h .unreserved;
     idle = λ m h. f .machine m h .idle;
-    copies = λ i l w. no-copy (t .machines) (t .entries) (bound t) (messageAt t i) (in-flight i l) w;
-    thieves = λ i l w. no-thief (t .machines) (t .entries) (bound t) (messageAt t i) (in-flight i l) w;
-    prices = λ i l n. no-price (t .machines) (t .entries) (bound t) (messageAt t i) (in-flight i l) n;
+    copies = λ i l w. no-copy (t .machines) (t .entries) (bound t) (messageAt t i) (passed i l) w;
+    thieves = λ i l w. no-thief (t .machines) (t .entries) (bound t) (messageAt t i) (passed i l) w;
+    prices = λ i l n. no-price (t .machines) (t .entries) (bound t) (messageAt t i) (passed i l) n;
     slots = past;
   }
 

@@ -6,7 +6,7 @@ use native.Mathlib.Nat.{suc-mul}
 use native.Mathlib.Omega.{arith}
 use native.Mathlib.Numerals.{add-one}
 use lib.ListN.{length, take, drop, set, getD, length-append}
-use lib.Seq.{paste, paste-zero, length-paste, take-length, length-take-le, take-at, drop-at, drop-drop, take-set-le, set-split, append-snoc, paste-suc}
+use lib.Seq.{paste, paste-zero, take-length, length-take-le, take-at, drop-at, drop-drop, take-set-le, set-split, append-snoc, paste-suc}
 use Rattle.text.specs.Text.{over, Written, joined}
 
 -- a copy of all of s
@@ -17,9 +17,6 @@ over-paste d at s = rw (take-length s)
 pub over-none : (d : List ℕ) (at : ℕ) → over d at [] ≡ d
 unfolding over
 over-none d at = sym (paste-zero d at [])
-
-pub length-over : (d : List ℕ) (at : ℕ) (w : List ℕ) → at + length w ≤ length d → length (over d at w) ≡ length d
-length-over d at w h = ap length (sym (over-paste d at w)) ∙ length-paste d at w (length w) h (omega arith)
 
 -- what stands up to the end of w
 length-head : (d : List ℕ) (at : ℕ) (w : List ℕ) → at + length w ≤ length d → length (take at d ++ w) ≡ at + length w
