@@ -1,7 +1,8 @@
 //! Events: a page of the proved library, one event at a time on a kept table, and the second implementation with and without check 9.
 
 use crate::timing::best;
-use second::{events, page, table::Table};
+use second::table::{Table, BYTES as TABLE};
+use second::{events, page};
 use std::hint::black_box;
 
 extern "C" {
@@ -20,7 +21,6 @@ extern "C" {
 }
 
 const PAGE: usize = 463_072;
-const TABLE: usize = 5171;
 
 /// The sum of the numbers of all events, each given to `step`.
 fn numbers_of(fresh: &Table, events: &[u8], step: fn(&mut Table, &[u8]) -> u8) -> u32 {

@@ -16,7 +16,7 @@ use Rattle.pricer.specs.declared.Terms.the-variants.{Zero, Fixed}
 use Rattle.table.specs.declared.Job.{Job}
 use Rattle.table.specs.declared.Machine.{Machine}
 use Rattle.table.specs.declared.Message.{Message}
-use Rattle.kept_read.specs.Layout.{bondFrom, jobFrom, machineFrom, messageFrom, termsFormed}
+use Rattle.kept_read.specs.Layout.{couponAt, yieldAt, jobPriceAt, messagePriceAt, bondFrom, jobFrom, machineFrom, messageFrom, termsFormed}
 use Rattle.kept_write.specs.Bytes.{bytes64, termsBytes, casesBytes, bondBytes, jobBytes, machineBytes, messageBytes}
 use Rattle.kept_write.proofs.Lengths.{length-64}
 use Rattle.round_trip.proofs.Starts.{Starts, front, behind, byte, first, number64}
@@ -32,8 +32,9 @@ module _ (s : List ℕ) (at : ℕ) where
   job-again v h =
       let x : List ℕ = v .state ∷ v .replica ∷ v .moving ∷ v .holder ∷ v .thief ∷ [] in
       let a : Starts s at x = front x (bytes64 (v .price)) h in
-      let b : Starts s (at + 5) (bytes64 (v .price)) = behind x (bytes64 (v .price)) h in
-      rw (first (v .state) _ a, byte x a 1 (omega arith), byte x a 2 (omega arith), byte x a 3 (omega arith), byte x a 4 (omega arith), number64 s (at + 5) (v .price) b)
+      let b : Starts s (at + jobPriceAt) (bytes64 (v .price)) = behind x (bytes64 (v .price)) h in
+      rw (first (v .state) _ a, byte x a 1 (omega arith), byte x a 2 (omega arith), byte x a 3 (omega arith), byte x a 4 (omega arith),
+        number64 s (at + jobPriceAt) (v .price) b)
 
   pub machine-again : (n : Machine) → Starts s at (machineBytes n) → machineFrom s at ≡ n
   unfolding machineBytes machineFrom
@@ -46,15 +47,16 @@ module _ (s : List ℕ) (at : ℕ) where
   message-again m h =
       let x : List ℕ = m .kind ∷ m .from ∷ m .to ∷ m .job ∷ m .replica ∷ m .thief ∷ [] in
       let a : Starts s at x = front x (bytes64 (m .price)) h in
-      let b : Starts s (at + 6) (bytes64 (m .price)) = behind x (bytes64 (m .price)) h in
-      rw (first (m .kind) _ a, byte x a 1 (omega arith), byte x a 2 (omega arith), byte x a 3 (omega arith), byte x a 4 (omega arith), byte x a 5 (omega arith), number64 s (at + 6) (m .price) b)
+      let b : Starts s (at + messagePriceAt) (bytes64 (m .price)) = behind x (bytes64 (m .price)) h in
+      rw (first (m .kind) _ a, byte x a 1 (omega arith), byte x a 2 (omega arith), byte x a 3 (omega arith), byte x a 4 (omega arith),
+        byte x a 5 (omega arith), number64 s (at + messagePriceAt) (m .price) b)
 
   -- the four parts of an entry's terms
   record Parts (variant periods coupon ytm : ℕ) : Type 0 where
     variant-is : getD s at 0 ≡ variant
     periods-is : getD s (at + 1) 0 ≡ periods
-    coupon-is : le64 s (at + 2) ≡ coupon
-    ytm-is : le64 s (at + 10) ≡ ytm
+    coupon-is : le64 s (at + couponAt) ≡ coupon
+    ytm-is : le64 s (at + yieldAt) ≡ ytm
 
   parts : (v n c y : ℕ) → Starts s at (termsBytes v n c y) → Parts v n c y
   unfolding termsBytes
@@ -62,11 +64,11 @@ module _ (s : List ℕ) (at : ℕ) where
       let x : List ℕ = v ∷ n ∷ [] in
       let xs : List ℕ = x ++ bytes64 c in
       let f : Starts s at xs = front xs (bytes64 y) h in
-      let e : at + length xs ≡ at + 10 = omega (arith, length-64 c) in
+      let e : at + length xs ≡ at + yieldAt = omega (arith, length-64 c) in
       record {
         variant-is = first v _ (front x (bytes64 c) f);
         periods-is = byte x (front x (bytes64 c) f) 1 (omega arith);
-        coupon-is = number64 s (at + 2) c (behind x (bytes64 c) f);
+        coupon-is = number64 s (at + couponAt) c (behind x (bytes64 c) f);
         ytm-is = ap (le64 s) (sym e) ∙ number64 s (at + length xs) y (behind xs (bytes64 y) h);
       }
 

@@ -1,5 +1,5 @@
 -- Which tables are held: that of any bytes, the fresh table of a book, and after an event what was held before it. Assumes nothing.
-use Prim.Native.Nat.{ℕ, _+_, _*_, _<_}
+use Prim.Native.Nat.{ℕ, _+_, _<_}
 use mathlib.Core.Path.{_≡_, refl, sym, ap, _∙_, subst}
 use mathlib.Core.Bool.{Bool, true, false, cond}
 use mathlib.Core.List.{List}
@@ -32,7 +32,8 @@ use Rattle.dispatcher.specs.Step.{stepOf}
 use Rattle.dispatcher.proofs.Kept.{step-sized}
 use Rattle.run.proofs.Events.{passed-sized}
 use Rattle.invariant.proofs.Fixed.{Fixed as Unwritten, fixed-step}
-use Rattle.kept_read.specs.Layout.{bondFrom, jobFrom, machineFrom, messageFrom, bondsFrom, jobsFrom, machinesFrom, toldFrom, poolsFrom, messagesFrom, tableFrom}
+use Rattle.kept_read.specs.Layout.{couponAt, yieldAt, bondStart, bondFrom, bondsFrom, jobsFrom, machinesFrom, toldFrom, poolsFrom, messagesFrom}
+use Rattle.kept_read.specs.Layout.{tableFrom}
 use Rattle.round_trip.proofs.Elements.{RatesFit}
 use Rattle.round_trip.proofs.Table.{Held}
 
@@ -42,23 +43,23 @@ rates-read : (s : List ℕ) (at : ℕ) → RatesFit (bondFrom s at .terms)
 unfolding bondFrom
 rates-read s at =
     byBool (eqb (getD s at 0) 0)
-    (λ e. rw e (ofBits-fits binary64 (le64 s (at + 10))))
-    (λ e. rw e (ofBits-fits binary64 (le64 s (at + 2)), ofBits-fits binary64 (le64 s (at + 10))))
+    (λ e. rw e (ofBits-fits binary64 (le64 s (at + yieldAt))))
+    (λ e. rw e (ofBits-fits binary64 (le64 s (at + couponAt)), ofBits-fits binary64 (le64 s (at + yieldAt))))
 
 long-from : (s : List ℕ) → Long (tableFrom s)
 unfolding tableFrom bondsFrom jobsFrom machinesFrom toldFrom poolsFrom messagesFrom
 long-from s = record {
-  bonds = length-tabulate (λ i. bondFrom s (2 + 18 * i)) 64 pastBond 64;
-  jobs = length-tabulate (λ i. jobFrom s (1154 + 13 * i)) 64 noJob 64;
-  nodes = length-tabulate (λ i. machineFrom s (1986 + 7 * i)) 16 noMachine 16;
-  told = length-tabulate (λ i. getD s (2098 + i) 0) 256 0 256;
-  pools = length-tabulate (λ i. getD s (2354 + i) 0) 1024 0 1024;
-  messages = length-tabulate (λ i. messageFrom s (3379 + 14 * i)) 128 noMessage 128;
+  bonds = length-tabulate _ 64 pastBond 64;
+  jobs = length-tabulate _ 64 noJob 64;
+  nodes = length-tabulate _ 16 noMachine 16;
+  told = length-tabulate _ 256 0 256;
+  pools = length-tabulate _ 1024 0 1024;
+  messages = length-tabulate _ 128 noMessage 128;
 }
 
 rates-from : (s : List ℕ) (j : ℕ) → j < 64 → RatesFit (getD (tableFrom s .bonds) j pastBond .terms)
 unfolding tableFrom bondsFrom
-rates-from s j k = rw (tabulate-at (λ i. bondFrom s (2 + 18 * i)) 64 pastBond 64 j pastBond k) (rates-read s (2 + 18 * j))
+rates-from s j k = rw (tabulate-at (λ i. bondFrom s (bondStart i)) 64 pastBond 64 j pastBond k) (rates-read s (bondStart j))
 
 pub held-from : (s : List ℕ) → Held (tableFrom s)
 held-from s = record { long = long-from s; rates = rates-from s }
