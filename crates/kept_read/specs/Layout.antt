@@ -9,6 +9,7 @@ use lib.Ieee.{Float, binary64, ofBits}
 use Rattle.endian.specs.Endian.{le64}
 use Rattle.lists.specs.Scan.{all, tabulate}
 use Rattle.pricer.specs.declared.Bond.{Bond}
+use Rattle.pricer.specs.declared.Terms.{Terms}
 use Rattle.pricer.specs.declared.Terms.the-variants.{Zero, Fixed}
 use Rattle.table.specs.declared.Job.{Job}
 use Rattle.table.specs.declared.Machine.{Machine}
@@ -91,12 +92,15 @@ messageStart i = messagesStart + messageSize * i
 abbrev pub numberAt : List ℕ → ℕ → Float
 numberAt s at = ofBits binary64 (le64 s at)
 
--- "the terms of each entry": case (0 zero-coupon, 1 fixed), periods, coupon, yield
+-- by the case, 0 zero-coupon, 1 fixed: coupon and yield
+unfoldable pub termsFrom : List ℕ → ℕ → Terms
+termsFrom s at =
+    cond (eqb (getD s at 0) 0) (Zero (numberAt s (at + yieldAt)))
+    (Fixed (numberAt s (at + couponAt)) (numberAt s (at + yieldAt)))
+
+-- "the terms of each entry": case, periods, coupon, yield
 unfoldable pub bondFrom : List ℕ → ℕ → Bond
-bondFrom s at =
-    cond (eqb (getD s at 0) 0)
-    (record { periods = getD s (at + 1) 0; terms = Zero (numberAt s (at + yieldAt)) })
-    (record { periods = getD s (at + 1) 0; terms = Fixed (numberAt s (at + couponAt)) (numberAt s (at + yieldAt)) })
+bondFrom s at = record { periods = getD s (at + 1) 0; terms = termsFrom s at }
 
 -- "for each job": state, replica, moving, holder, thief, price bits
 unfoldable pub jobFrom : List ℕ → ℕ → Job

@@ -3,7 +3,8 @@ ghost use mathlib.Core.Path.{_≡_};
 ghost use Prim.Native.Nat.{_+_, _≤_};
 ghost use lib.ListN.{length};
 ghost use lib.Ieee.{binary64, ofBits};
-ghost use Rattle.kept_read.specs.Layout.{bondSize, jobSize, machineSize, messageSize, tableSize, bondFrom, jobFrom, machineFrom, messageFrom};
+ghost use Rattle.kept_read.specs.Layout.{bondSize, jobSize, machineSize, messageSize, tableSize, termsFrom, bondFrom, jobFrom, machineFrom};
+ghost use Rattle.kept_read.specs.Layout.{messageFrom};
 ghost use Rattle.kept_read.specs.Layout.{bondsFrom, jobsFrom, machinesFrom, toldFrom, poolsFrom, messagesFrom, tableFrom, termsFormed, formed};
 use pricer::Bond;
 use pricer::Terms;
@@ -44,22 +45,26 @@ fn number(bits: u64) -> f64
     f64::from_bits(bits)
 }
 
+fn terms(s: &[u8], at: usize) -> Terms
+    requires { ⌜ at + bondSize ≤ length (now s) ⌝ }
+    ensures { λ r. ⌜ r ≡ termsFrom (now (s .entry)) at ⌝ }
+{
+    let ytm = number(endian::u64_at(s, at + YIELD_AT));
+    if s[at] == 0 {
+        return Terms::Zero(ytm);
+    }
+    let coupon = number(endian::u64_at(s, at + COUPON_AT));
+    Terms::Fixed(coupon, ytm)
+}
+
 fn bond(s: &[u8], at: usize) -> Bond
     requires { ⌜ at + bondSize ≤ length (now s) ⌝ }
     ensures { λ r. ⌜ r ≡ bondFrom (now (s .entry)) at ⌝ }
 {
-    let periods = s[at + 1];
-    let ytm = number(endian::u64_at(s, at + YIELD_AT));
-    if s[at] == 0 {
-        return Bond {
-            periods,
-            terms: Terms::Zero(ytm),
-        };
-    }
-    let coupon = number(endian::u64_at(s, at + COUPON_AT));
+    let terms = terms(s, at);
     Bond {
-        periods,
-        terms: Terms::Fixed(coupon, ytm),
+        periods: s[at + 1],
+        terms,
     }
 }
 
@@ -115,10 +120,7 @@ fn bonds(s: &[u8]) -> [Bond; 64]
     requires { ⌜ length (now s) ≡ tableSize ⌝ }
     ensures { λ r. ⌜ r ≡ bondsFrom (now (s .entry)) ⌝ }
 {
-    let mut out = [Bond {
-        periods: 0,
-        terms: Terms::Zero(0.0),
-    }; 64];
+    let mut out = [pricer::NO_BOND; 64];
     let mut i: usize = 0;
     while i < 64 {
         out[i] = bond(s, BONDS_START + BOND_SIZE * i);

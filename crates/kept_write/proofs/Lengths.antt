@@ -4,13 +4,10 @@ use mathlib.Core.Path.{_≡_, refl, _∙_}
 use mathlib.Core.List.{List, [], _∷_, append-nil}
 use native.Mathlib.Nat.{suc-mul}
 use native.Mathlib.Omega.{arith}
-use lib.Ieee.{Float, binary64, toBits}
 use lib.ListN.{length, getD, length-append, drop-of-length-le}
 use Rattle.text.specs.Text.{over, joined, Written}
 use Rattle.text.proofs.Over.{then, then-two}
 use Rattle.pricer.specs.declared.Bond.{Bond}
-use Rattle.pricer.specs.declared.Terms.{Terms}
-use Rattle.pricer.specs.declared.Terms.the-variants.{Zero, Fixed}
 use Rattle.table.specs.declared.Job.{Job}
 use Rattle.table.specs.declared.Machine.{Machine}
 use Rattle.table.specs.declared.Message.{Message}
@@ -18,7 +15,8 @@ use Rattle.table.specs.declared.Table.{Table}
 use Rattle.table.proofs.Long.{Long}
 use Rattle.table.specs.Views.{noJob, noMachine, noMessage, pastBond}
 use Rattle.kept_read.specs.Layout.{bondSize, jobSize, machineSize, messageSize, tableSize}
-use Rattle.kept_write.specs.Bytes.{entriesSize, fleetSize, flightSize, bytes16, bytes32, bytes64, termsBytes, casesBytes, bondBytes, jobBytes}
+use Rattle.kept_write.specs.Bytes.{entriesSize, fleetSize, flightSize, bytes16, bytes32, bytes64, caseOf, couponBits, yieldBits, bondBytes}
+use Rattle.kept_write.specs.Bytes.{jobBytes}
 use Rattle.kept_write.specs.Bytes.{machineBytes, messageBytes, bondsBytes, jobsBytes, machinesBytes, messagesBytes, entriesBytes, fleetBytes}
 use Rattle.kept_write.specs.Bytes.{flightBytes, bytesOf}
 
@@ -38,17 +36,9 @@ length-64 x = refl
 
 -- ---- one element
 
-pub length-terms : (v n c y : ℕ) → length (termsBytes v n c y) ≡ bondSize
-unfolding termsBytes bytes64 bytes32 bytes16
-length-terms v n c y = refl
-
-length-cases : (n : ℕ) (t : Terms) → length (casesBytes n t) ≡ bondSize
-length-cases n (Zero y) = length-terms 0 n 0 (toBits binary64 y)
-length-cases n (Fixed c y) = length-terms 1 n (toBits binary64 c) (toBits binary64 y)
-
 pub length-bond : (b : Bond) → length (bondBytes b) ≡ bondSize
-unfolding bondBytes
-length-bond b = length-cases (b .periods) (b .terms)
+unfolding bondBytes bytes64 bytes32 bytes16
+length-bond b = refl
 
 pub length-job : (v : Job) → length (jobBytes v) ≡ jobSize
 unfolding jobBytes bytes64 bytes32 bytes16
@@ -169,10 +159,12 @@ module _ {d : List ℕ} {at : ℕ} {e : List ℕ} {m : ℕ} {f : List ℕ} {r : 
   written-flight t p q h = then p q (omega (arith, length-flight t))
 
   module _ {g : List ℕ} {k : ℕ} where
-    pub written-terms : (v n c y : ℕ) → Written d at (v ∷ n ∷ []) e m → Written e m (bytes64 c) f r → Written f r (bytes64 y) g k
-        → at + bondSize ≤ length d → Written d at (termsBytes v n c y) g k
-    unfolding termsBytes
-    written-terms v n c y p q s h = then-two p q s (omega (arith, length-terms v n c y))
+    pub written-bond : (b : Bond) (v x y : ℕ) → Written d at (v ∷ b .periods ∷ []) e m → Written e m (bytes64 x) f r → Written f r (bytes64 y) g k
+        → v ≡ caseOf (b .terms) → x ≡ couponBits (b .terms) → y ≡ yieldBits (b .terms) → at + bondSize ≤ length d → Written d at (bondBytes b) g k
+    unfolding bondBytes
+    written-bond b v x y p q s i j l h =
+        rw (← i, ← j, ← l)
+        (then-two p q s (omega (arith, length-append (bytes64 x) (bytes64 y), length-64 x, length-64 y)))
 
     pub written-entries : (t : Table) → Written d at (t .machines ∷ t .entries ∷ []) e m → Written e m (bondsBytes (t .bonds)) f r
         → Written f r (jobsBytes (t .jobs)) g k → at + entriesSize ≤ length d → Written d at (entriesBytes t) g k
@@ -191,13 +183,3 @@ unfolding bytesOf
 written-all t {d} p q s l h =
     let n = length-bytes t l in
     then-two p q s (omega (arith, n)) .text ∙ over-all d (bytesOf t) (omega (arith, n))
-
--- ---- the terms of a bond, by their case
-
-pub zero-written : (n : ℕ) {d : List ℕ} {at x : ℕ} {y : Float} {t : Terms} {e : List ℕ} {r : ℕ}
-    → Written d at (termsBytes 0 n 0 x) e r → x ≡ toBits binary64 y → t ≡ Zero y → Written d at (casesBytes n t) e r
-zero-written n w p q = rw (q, ← p) w
-
-pub fixed-written : (n : ℕ) {d : List ℕ} {at z x : ℕ} {c y : Float} {t : Terms} {e : List ℕ} {r : ℕ}
-    → Written d at (termsBytes 1 n z x) e r → z ≡ toBits binary64 c → x ≡ toBits binary64 y → t ≡ Fixed c y → Written d at (casesBytes n t) e r
-fixed-written n w o p q = rw (q, ← o, ← p) w

@@ -28,18 +28,23 @@ bytes64 x = bytes32 (x % 4294967296) ++ bytes32 (x / 4294967296)
 
 -- ---- one element
 
+-- a zero-coupon bond is case 0, a fixed one is case 1
+abbrev pub caseOf : Terms → ℕ
+caseOf (Zero y) = 0
+caseOf (Fixed c y) = 1
+
+-- the coupon of a zero-coupon bond "has all 64 bits clear"
+abbrev pub couponBits : Terms → ℕ
+couponBits (Zero y) = 0
+couponBits (Fixed c y) = toBits binary64 c
+
+abbrev pub yieldBits : Terms → ℕ
+yieldBits (Zero y) = toBits binary64 y
+yieldBits (Fixed c y) = toBits binary64 y
+
 -- "the terms of each entry": case, periods, coupon bits, yield bits
-unfoldable pub termsBytes : ℕ → ℕ → ℕ → ℕ → List ℕ
-termsBytes variant periods coupon ytm = (variant ∷ periods ∷ []) ++ bytes64 coupon ++ bytes64 ytm
-
--- a zero-coupon bond is case 0, and its coupon "has all 64 bits clear"; a fixed one is case 1
-abbrev pub casesBytes : ℕ → Terms → List ℕ
-casesBytes n (Zero y) = termsBytes 0 n 0 (toBits binary64 y)
-casesBytes n (Fixed c y) = termsBytes 1 n (toBits binary64 c) (toBits binary64 y)
-
--- the bytes of an entry's terms
 unfoldable pub bondBytes : Bond → List ℕ
-bondBytes b = casesBytes (b .periods) (b .terms)
+bondBytes b = (caseOf (b .terms) ∷ b .periods ∷ []) ++ bytes64 (couponBits (b .terms)) ++ bytes64 (yieldBits (b .terms))
 
 -- "for each job": state, replica, moving, holder, thief, price bits
 unfoldable pub jobBytes : Job → List ℕ

@@ -4,7 +4,8 @@ ghost use Prim.Native.Nat.{_+_, _*_, _≤_};
 ghost use lib.ListN.{length};
 ghost use Rattle.text.specs.Text.{Written};
 ghost use Rattle.kept_read.specs.Layout.{bondSize, jobSize, machineSize, messageSize, tableSize};
-ghost use Rattle.kept_write.specs.Bytes.{entriesSize, fleetSize, flightSize, bytes16, bytes32, bytes64, termsBytes, bondBytes, jobBytes};
+ghost use Rattle.kept_write.specs.Bytes.{entriesSize, fleetSize, flightSize, bytes16, bytes32, bytes64, caseOf, couponBits, yieldBits};
+ghost use Rattle.kept_write.specs.Bytes.{bondBytes, jobBytes};
 ghost use Rattle.kept_write.specs.Bytes.{machineBytes, messageBytes, bondsBytes, jobsBytes, machinesBytes, messagesBytes, entriesBytes};
 ghost use Rattle.kept_write.specs.Bytes.{fleetBytes, flightBytes, bytesOf};
 use pricer::Bond;
@@ -42,26 +43,42 @@ fn put_u64(out: &mut [u8], at: usize, x: u64) -> usize
 
 // ---- one element
 
-fn put_terms(out: &mut [u8], at: usize, variant: u8, periods: u8, coupon: u64, ytm: u64) -> usize
-    requires { ⌜ at + bondSize ≤ length (now out) ⌝ }
-    ensures { λ r. ⌜ Written (now (out .entry)) at (termsBytes variant periods coupon ytm) (now (out .exit)) r ⌝ }
+fn case_of(t: Terms) -> u8
+    ensures { λ r. ⌜ r ≡ caseOf t ⌝ }
 {
-    let first = [variant, periods];
-    let a = text::put(out, at, &first);
-    let b = put_u64(out, a, coupon);
-    put_u64(out, b, ytm)
+    match t {
+        Terms::Zero(_) => 0,
+        Terms::Fixed(_, _) => 1,
+    }
+}
+
+fn coupon_bits(t: Terms) -> u64
+    ensures { λ r. ⌜ r ≡ couponBits t ⌝ }
+{
+    match t {
+        Terms::Zero(_) => 0,
+        Terms::Fixed(c, _) => pricer::bits(c),
+    }
+}
+
+fn yield_bits(t: Terms) -> u64
+    ensures { λ r. ⌜ r ≡ yieldBits t ⌝ }
+{
+    match t {
+        Terms::Zero(y) => pricer::bits(y),
+        Terms::Fixed(_, y) => pricer::bits(y),
+    }
 }
 
 fn put_bond(out: &mut [u8], at: usize, b: Bond) -> usize
     requires { ⌜ at + bondSize ≤ length (now out) ⌝ }
     ensures { λ r. ⌜ Written (now (out .entry)) at (bondBytes b) (now (out .exit)) r ⌝ }
 {
-    let n = b.periods;
     let t = b.terms;
-    match t {
-        Terms::Zero(y) => put_terms(out, at, 0, n, 0, pricer::bits(y)),
-        Terms::Fixed(c, y) => put_terms(out, at, 1, n, pricer::bits(c), pricer::bits(y)),
-    }
+    let first = [case_of(t), b.periods];
+    let a = text::put(out, at, &first);
+    let e = put_u64(out, a, coupon_bits(t));
+    put_u64(out, e, yield_bits(t))
 }
 
 fn put_job(out: &mut [u8], at: usize, v: Job) -> usize

@@ -5,13 +5,13 @@ use mathlib.Core.Bool.{Bool, true, false, not, true≢false}
 use mathlib.Core.List.{List, [], _∷_}
 use native.Mathlib.Omega.{arith}
 use lib.Dec.{T, eqb, ltb}
-use lib.Ieee.{Float, nan, inf, fin, binary64, le, isNan, toBits}
+use lib.Ieee.{Float, nan, inf, fin, binary64, isNan, toBits}
 use lib.ListN.{length, getD}
 use lib.Seq.{take-all}
 use Rattle.lists.specs.Scan.{all}
-use Rattle.lists.proofs.Cases.{byBool, and-left, and-right}
+use Rattle.lists.proofs.Cases.{byBool, and-right}
 use Rattle.lists.proofs.Scans.{all-at, tabulate-at}
-use Rattle.pricer.specs.Range.{nought, couponInRange, yieldInRange, periodsInRange, termsInRange, inRange}
+use Rattle.pricer.proofs.Real.{RatesReal, rates-real}
 use Rattle.pricer.specs.declared.Bond.{Bond}
 use Rattle.pricer.specs.declared.Terms.{Terms}
 use Rattle.pricer.specs.declared.Terms.the-variants.{Zero, Fixed}
@@ -27,15 +27,9 @@ use Rattle.kept_write.specs.Bytes.{entriesSize, fleetSize, flightSize, bondByte
 use Rattle.kept_write.specs.Bytes.{machinesBytes, messagesBytes, entriesBytes, fleetBytes, flightBytes, bytesOf}
 use Rattle.kept.proofs.Answers.{formed-length}
 use Rattle.round_trip.specs.Again.{AreBytes}
-use Rattle.round_trip.proofs.Parts.{RatesReal, part, both, start, next, listed, elements, bond-part, job-part, machine-part, message-part}
+use Rattle.round_trip.proofs.Parts.{part, both, start, next, listed, elements, bond-part, job-part, machine-part, message-part}
 
 -- ---- no rate of a table that passes is a NaN
-
-le-real : (x : Float) → le nought x ≡ true → T (not (isNan x))
-unfolding le isNan
-le-real nan h = absurd (true≢false (sym h))
-le-real (inf s) h = tt
-le-real (fin s m e) h = tt
 
 bits-real : (x : Float) → eqb (toBits binary64 x) 0 ≡ true → T (not (isNan x))
 unfolding toBits isNan
@@ -43,22 +37,14 @@ bits-real nan h = absurd (true≢false (sym h))
 bits-real (inf s) h = tt
 bits-real (fin s m e) h = tt
 
-yield-real : (y : Float) → yieldInRange y ≡ true → T (not (isNan y))
-yield-real y h = le-real y (and-left _ _ h)
-
-terms-real : (t : Terms) → termsInRange t ≡ true → RatesReal t
-terms-real (Zero y) h = yield-real y h
-terms-real (Fixed c y) h = (le-real c (and-left _ _ (and-left (couponInRange c) (yieldInRange y) h)), yield-real y (and-right (couponInRange c) (yieldInRange y) h))
-
 none-real : (t : Terms) → noTerms t ≡ true → RatesReal t
 none-real (Zero y) h = bits-real y h
 none-real (Fixed c y) h = absurd (true≢false (sym h))
 
 bond-real : (n j : ℕ) (b : Bond) → bondOk n j b ≡ true → RatesReal (b .terms)
-unfolding inRange
 bond-real n j b h =
     byBool (ltb j n)
-    (λ e. terms-real (b .terms) (and-right (periodsInRange (b .periods)) (termsInRange (b .terms)) (rw e at h)))
+    (λ e. rates-real b (rw e at h))
     (λ e. none-real (b .terms) (and-right (eqb (b .periods) 0) (noTerms (b .terms)) (rw e at h)))
 
 -- ---- each region is those bytes of s

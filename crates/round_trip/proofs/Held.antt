@@ -15,24 +15,26 @@ use Rattle.endian.specs.Endian.{le64}
 use Rattle.pricer.specs.declared.Bond.{Bond}
 use Rattle.pricer.specs.declared.Terms.the-variants.{Zero, Fixed}
 use Rattle.pricer.specs.Range.{inRange}
-use Rattle.term.specs.Term.{of, checked, termFrom, termOf}
+use Rattle.term.specs.Term.{of, checked, termFrom, bareBond, termOf}
 use Rattle.term.specs.declared.Reading.{Reading}
 use Rattle.term.specs.declared.Reading.the-variants.{Faulty, Valid}
 use Rattle.book.specs.Book.{termAt}
-use Rattle.book.specs.Parts.{entryCount, noBond, bondIn, bondAt, bondOf}
+use Rattle.pricer.specs.Bonds.{noBond, withTerms}
+use Rattle.book.specs.Parts.{entryCount, bondIn, bondAt, bondOf}
 use Rattle.table.specs.declared.Table.{Table}
 use Rattle.table.specs.Views.{noJob, noMachine, noMessage, pastBond, withJob, withNode, withPool, withTold, withMessages}
 use Rattle.table.specs.Views as views
-use Rattle.table.proofs.Long.{Long}
+use Rattle.table.proofs.Long.{Long, sized}
 use Rattle.validity.specs.Validity.{tableOk}
 use Rattle.opening.specs.Opening.{blank, bondsOf, freshOf}
 use Rattle.opening.proofs.Counts.{entries-most}
 use Rattle.opening.proofs.Shown.{sized-fresh, bond-fresh}
 use Rattle.dispatcher.specs.Step.{stepOf}
 use Rattle.dispatcher.proofs.Kept.{step-sized}
-use Rattle.run.proofs.Events.{passed-sized}
+use Rattle.dispatcher.proofs.Ready.{ready}
 use Rattle.invariant.proofs.Fixed.{Fixed as Unwritten, fixed-step}
-use Rattle.kept_read.specs.Layout.{couponAt, yieldAt, bondStart, bondFrom, bondsFrom, jobsFrom, machinesFrom, toldFrom, poolsFrom, messagesFrom}
+use Rattle.kept_read.specs.Layout.{couponAt, yieldAt, bondStart, termsFrom, bondFrom, bondsFrom, jobsFrom, machinesFrom, toldFrom, poolsFrom}
+use Rattle.kept_read.specs.Layout.{messagesFrom}
 use Rattle.kept_read.specs.Layout.{tableFrom}
 use Rattle.round_trip.proofs.Elements.{RatesFit}
 use Rattle.round_trip.proofs.Table.{Held}
@@ -40,7 +42,7 @@ use Rattle.round_trip.proofs.Table.{Held}
 -- ---- the table of any bytes
 
 rates-read : (s : List ℕ) (at : ℕ) → RatesFit (bondFrom s at .terms)
-unfolding bondFrom
+unfolding bondFrom termsFrom
 rates-read s at =
     byBool (eqb (getD s at 0) 0)
     (λ e. rw e (ofBits-fits binary64 (le64 s (at + yieldAt))))
@@ -81,16 +83,18 @@ rates-checked : (b : Bond) → RatesFit (b .terms) → Fit (checked b)
 unfolding checked
 rates-checked b f = either (inRange b) (Valid b) Faulty f rates-none
 
-rates-term : (k n c y : ℕ) → Fit (termFrom k n c y)
+rates-term : (k : ℕ) (b : Bond) (c y : ℕ) → Fit (termFrom k b c y)
 unfolding termFrom
-rates-term k n c y =
+rates-term k b c y =
     either (eqb k 1) _ _
-    (either (eqb c 0) _ Faulty (rates-checked (record { periods = n; terms = Zero (of y) }) (ofBits-fits binary64 y)) rates-none)
-    (either (eqb k 2) _ Faulty (rates-checked (record { periods = n; terms = Fixed (of c) (of y) }) (ofBits-fits binary64 c, ofBits-fits binary64 y)) rates-none)
+    (either (eqb c 0) _ Faulty (rates-checked (withTerms b (Zero (of y))) (ofBits-fits binary64 y)) rates-none)
+    (either (eqb k 2) _ Faulty (rates-checked (withTerms b (Fixed (of c) (of y))) (ofBits-fits binary64 c, ofBits-fits binary64 y)) rates-none)
 
 rates-of : (s : List ℕ) → Fit (termOf s)
 unfolding termOf
-rates-of s = either (eqb (length s) 19) _ Faulty (either (eqb (getD s 2 0) 0) _ Faulty (rates-term (getD s 0 0) (getD s 1 0) (le64 s 3) (le64 s 11)) rates-none) rates-none
+rates-of s =
+    either (eqb (length s) 19) _ Faulty
+    (either (eqb (getD s 2 0) 0) _ Faulty (rates-term (getD s 0 0) (bareBond s) (le64 s 3) (le64 s 11)) rates-none) rates-none
 
 rates-book : (s : List ℕ) (i : ℕ) → RatesFit (bondOf s i .terms)
 unfolding bondOf bondAt
@@ -130,7 +134,7 @@ module _ (t : Table) (e : List ℕ) (h : Held t) where
 
   passed : tableOk t ≡ true → Held (stepOf t e .table)
   passed k =
-      let z = step-sized t e (passed-sized t (h .long) k) in
+      let z = step-sized t e (sized t (h .long) (ready t (h .long) k .flight)) in
       record {
         long = record { bonds = ap length same-bonds ∙ h .long .bonds; jobs = z .jobs; nodes = z .nodes; told = z .told; pools = z .pools; messages = z .messages };
         rates = λ j l. rw same-bonds (h .rates j l);
