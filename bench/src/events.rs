@@ -1,7 +1,8 @@
 //! Events: a page of the proved library, one event at a time on a kept table, and the second implementation with and without check 9.
 
 use crate::timing::best;
-use second::{events, page, table::Table};
+use second::table::{Table, BYTES as TABLE};
+use second::{events, page};
 use std::hint::black_box;
 
 extern "C" {
@@ -18,9 +19,6 @@ extern "C" {
     fn rakhvide_step(table: *mut u8, nt: usize, event: *const u8, ne: usize) -> u8;
     fn rakhvide_check(table: *const u8, nt: usize) -> u8;
 }
-
-const PAGE: usize = 463_072;
-const TABLE: usize = 5171;
 
 /// The sum of the numbers of all events, each given to `step`.
 fn numbers_of(fresh: &Table, events: &[u8], step: fn(&mut Table, &[u8]) -> u8) -> u32 {
@@ -56,7 +54,7 @@ fn row(machines: u8, count: usize) {
     let book = bench::book(machines);
     let fresh = bench::fresh(&book);
     let events = bench::events(machines, count);
-    let mut out = vec![0; PAGE];
+    let mut out = vec![0; page::LONGEST];
     let mut kept = [0; TABLE];
     let written = proved_page(&book, &events, &mut out);
     assert_eq!(page::page(&book, &events).as_bytes(), &out[..written]);

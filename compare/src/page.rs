@@ -2,11 +2,13 @@
 
 use crate::book::Book;
 use crate::events::answer;
-use crate::table::{Job, Table, NOT_ADMITTED, OPEN};
+use crate::table::{Job, Table, ENTRIES, NOT_ADMITTED, OPEN};
 use std::fmt::Write;
 
 /// "events.bin (at most 60,000 bytes; later ones are not read)"
 pub const EVENT_BYTES: usize = 60_000;
+/// No page is longer: a line of 23 bytes for each event, and one of 48 for each entry.
+pub const LONGEST: usize = EVENT_BYTES / 3 * 23 + ENTRIES * 48;
 
 /// The page of a book and the bytes of its events.
 pub fn page(book: &[u8], events: &[u8]) -> String {

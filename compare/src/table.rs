@@ -8,8 +8,23 @@ use crate::price::{Bond, Terms};
 pub const MACHINES: usize = 16;
 pub const ENTRIES: usize = 64;
 pub const MESSAGES: usize = 128;
+
+/// The bytes of one element of a kept table.
+pub const TERM_BYTES: usize = 18;
+pub const JOB_BYTES: usize = 13;
+pub const MACHINE_BYTES: usize = 7;
+pub const MESSAGE_BYTES: usize = 14;
+
+/// Where each region of a kept table starts, after the two counts.
+pub const TERMS_AT: usize = 2;
+pub const JOBS_AT: usize = TERMS_AT + ENTRIES * TERM_BYTES;
+pub const MACHINES_AT: usize = JOBS_AT + ENTRIES * JOB_BYTES;
+pub const TOLD_AT: usize = MACHINES_AT + MACHINES * MACHINE_BYTES;
+pub const POOLS_AT: usize = TOLD_AT + MACHINES * MACHINES;
+pub const IN_FLIGHT_AT: usize = POOLS_AT + MACHINES * ENTRIES;
+pub const MESSAGES_AT: usize = IN_FLIGHT_AT + 1;
 /// The length of a kept table.
-pub const BYTES: usize = 5171;
+pub const BYTES: usize = MESSAGES_AT + MESSAGES * MESSAGE_BYTES;
 
 /// The state of a job.
 pub const NOT_ADMITTED: u8 = 0;
@@ -333,14 +348,15 @@ mod tests {
     fn bytes_there_and_back() {
         let mut bytes: [u8; BYTES] = std::array::from_fn(|i| (i % 251) as u8);
         for entry in 0..ENTRIES {
-            bytes[2 + 18 * entry] = (entry % 2) as u8;
+            let at = TERMS_AT + entry * TERM_BYTES;
+            bytes[at] = (entry % 2) as u8;
             if entry % 2 == 0 {
-                bytes[4 + 18 * entry..12 + 18 * entry].fill(0);
+                bytes[at + 2..at + 10].fill(0);
             }
         }
         assert_eq!(Table::from_bytes(&bytes).unwrap().to_bytes(), bytes);
         assert!(Table::from_bytes(&bytes[1..]).is_none());
-        bytes[4] = 1;
+        bytes[TERMS_AT + 2] = 1;
         assert!(Table::from_bytes(&bytes).is_none());
     }
 
@@ -354,7 +370,7 @@ mod tests {
         table.in_flight = 105;
         table.messages[0].kind = 106;
         let bytes = table.to_bytes();
-        assert_eq!([bytes[1154], bytes[1986], bytes[2098]], [101, 102, 103]);
-        assert_eq!([bytes[2354], bytes[3378], bytes[3379]], [104, 105, 106]);
+        assert_eq!([bytes[JOBS_AT], bytes[MACHINES_AT], bytes[TOLD_AT]], [101, 102, 103]);
+        assert_eq!([bytes[POOLS_AT], bytes[IN_FLIGHT_AT], bytes[MESSAGES_AT]], [104, 105, 106]);
     }
 }

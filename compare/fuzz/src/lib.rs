@@ -9,7 +9,7 @@
 //! 3. the length of a book (2 bytes), the book, and events for its page;
 //! 4. the length of a book (2 bytes), the book, and what is done to the table opened from it: events of 3
 //!    bytes, and changes of one byte (240, offset in 2 bytes, value);
-//! 5. a table of 5171 bytes (shorter ones are filled with 0), then one event.
+//! 5. the bytes of a table (shorter ones are filled with 0), then one event.
 
 #[path = "../../src/bin/compare/library.rs"]
 mod library;

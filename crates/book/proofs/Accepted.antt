@@ -1,6 +1,6 @@
 -- What an accepted book gives, for the crates above, which do not look into the reader: its sizes, identifiers that pass and are all different,
 -- and terms in range. Assumes nothing.
-use mathlib.Core.Path.{_≡_, refl, sym, ap, _∙_, subst}
+use mathlib.Core.Path.{_≡_, refl, sym, ap, _∙_}
 use mathlib.Core.Bool.{Bool, true, false, not, cond, _&&_, true≢false}
 use mathlib.Core.Logic.{_≢_, _⊎_, ⊎-elim}
 use mathlib.Core.List.{List, []}
@@ -16,13 +16,13 @@ use Rattle.lists.proofs.Scans.{all-at}
 use Rattle.lists.proofs.Count.{least-at, least-before}
 use Rattle.isin.specs.Isin.{verdictOf}
 use Rattle.pricer.specs.Range.{inRange}
-use Rattle.pricer.specs.declared.Bond.{Bond}
 use Rattle.term.specs.Term.{termOf, termNumber}
 use Rattle.term.proofs.Ranged.{read-in-range}
 use Rattle.term.specs.declared.Reading.{Reading}
 use Rattle.term.specs.declared.Reading.the-variants.{Faulty, Valid}
-use Rattle.book.specs.Book.{machinesOf, entriesOf, sizesInRange, identifierAt, termAt, same, repeated, faultAt, lowestFaulty, lowestFault, bookVerdict}
-use Rattle.book.specs.Parts.{IsSize, sizeAt, entryCount, identifierOf, identifierNumber, noBond, bondIn, bondAt, bondOf}
+use Rattle.book.specs.Book.{machinesOf, entriesOf, sizesInRange, identifierAt, termAt, repeated, faultAt, lowestFaulty, lowestFault, bookVerdict}
+use Rattle.pricer.specs.Bonds.{noBond}
+use Rattle.book.specs.Parts.{IsSize, sizeAt, entryCount, identifierOf, identifierNumber, bondIn, bondAt, bondOf}
 use Rattle.book.proofs.Rests.{same-itself}
 use Rattle.book.proofs.Faults.{isFaulty, differs}
 

@@ -2,13 +2,11 @@
 use Prim.Native.Nat.{ℕ}
 use mathlib.Core.Path.{_≡_}
 use mathlib.Core.Logic.{_⊎_}
-use mathlib.Core.Bool.{false, not, cond}
+use mathlib.Core.Bool.{not, cond}
 use mathlib.Core.List.{List, []}
 use lib.Dec.{ltb, eqb}
-use lib.IntN.{pos}
-use lib.Ieee.{fin}
+use Rattle.pricer.specs.Bonds.{noBond}
 use Rattle.pricer.specs.declared.Bond.{Bond}
-use Rattle.pricer.specs.declared.Terms.the-variants.{Zero}
 use Rattle.endian.specs.Endian.{le16}
 use Rattle.term.specs.Term.{termOf}
 use Rattle.term.specs.declared.Reading.{Reading}
@@ -40,10 +38,6 @@ unfoldable pub identifierNumber : List ℕ → ℕ → ℕ
 identifierNumber s i =
     cond (not (eqb (bookVerdict s) 0)) (bookVerdict s)
     (cond (ltb i (entryCount s)) 0 11)
-
--- no bond: no periods, and a zero's terms with all bits clear
-abbrev pub noBond : Bond
-noBond = record { periods = 0; terms = Zero (fin false 0 (pos 0)) }
 
 -- the bond that was read
 abbrev pub bondIn : Reading → Bond

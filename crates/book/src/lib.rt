@@ -1,6 +1,5 @@
 // The book: its sizes, its lowest faulty entry, and the parts of an entry.
 use pricer::Bond;
-use pricer::Terms;
 use term::Reading;
 ghost use mathlib.Core.Path.{_≡_};
 ghost use mathlib.Core.List.{[]};
@@ -173,15 +172,12 @@ pub fn identifier<'a>(s: &'a [u8], i: usize, number: &mut u8) -> &'a [u8]
     identifier_at(s, i)
 }
 
-// The bond of a term that was read; what stands where there is none has no periods and a zero's terms, all bits clear.
+// The bond of a term that was read, or no bond.
 fn bond_in(r: Reading) -> Bond
     ensures { λ b. ⌜ b ≡ bondIn r ⌝ }
 {
     match r {
-        Reading::Faulty => Bond {
-            periods: 0,
-            terms: Terms::Zero(0.0),
-        },
+        Reading::Faulty => pricer::NO_BOND,
         Reading::Valid(b) => b,
     }
 }

@@ -9,7 +9,6 @@ use Rattle.pricer.specs.Price.{priceBits}
 use Rattle.book.specs.Parts.{entryCount, bondOf}
 use Rattle.table.specs.declared.Message.{Message}
 use Rattle.table.specs.declared.Table.{Table}
-use Rattle.table.specs.declared.Answer.{Answer}
 use Rattle.table.specs.Views.{jobAt, messageAt}
 use Rattle.table.specs.Messages.{oldest}
 use Rattle.table.specs.Parts.{RESULT}

@@ -12,7 +12,6 @@ use Rattle.book.specs.Book.{bookVerdict}
 use Rattle.table.specs.declared.Job.{Job}
 use Rattle.table.specs.declared.Message.{Message}
 use Rattle.table.specs.declared.Table.{Table}
-use Rattle.table.specs.declared.Answer.{Answer}
 use Rattle.table.specs.Views.{jobAt, toldAt, flight}
 use Rattle.table.specs.Parts.{opened, message, REQ, DENIED, ACK}
 use Rattle.opening.specs.Opening.{openOf}

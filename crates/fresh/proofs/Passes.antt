@@ -11,7 +11,8 @@ use lib.Ieee.{toBits}
 use Rattle.lists.proofs.Cases.{byBool}
 use Rattle.pricer.specs.Range.{inRange}
 use Rattle.book.specs.Book.{bookVerdict}
-use Rattle.book.specs.Parts.{machineCount, entryCount, noBond, bondAt, bondOf}
+use Rattle.pricer.specs.Bonds.{noBond}
+use Rattle.book.specs.Parts.{machineCount, entryCount, bondAt, bondOf}
 use Rattle.book.proofs.Accepted.{accepted, accepted-size, entry, bond-below, bond-past}
 use Rattle.table.specs.Views.{nodeAt}
 use Rattle.table.proofs.Views.{Sized}

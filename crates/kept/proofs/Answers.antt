@@ -14,16 +14,16 @@ use Rattle.book.specs.Book.{bookVerdict}
 use Rattle.opening.specs.Opening.{openOf}
 use Rattle.opening.proofs.Shown.{opened-number, opened-table}
 use Rattle.dispatcher.specs.Step.{stepOf}
-use Rattle.kept_read.specs.Layout.{formed, tableFrom}
+use Rattle.kept_read.specs.Layout.{tableSize, formed, tableFrom}
 use Rattle.kept_write.specs.Bytes.{bytesOf}
 use Rattle.kept.specs.Kept.{stepNumber, stepBytes, openNumber, openBytes}
 
--- the bytes of a table are 5171
-pub formed-length : (s : List ℕ) → formed s ≡ true → length s ≡ 5171
+-- the bytes of a table have its size
+pub formed-length : (s : List ℕ) → formed s ≡ true → length s ≡ tableSize
 unfolding formed
 formed-length s e =
-    byBool (eqb (length s) 5171)
-    (λ h. eqb-true (length s) 5171 h)
+    byBool (eqb (length s) tableSize)
+    (λ h. eqb-true (length s) tableSize h)
     (λ h. let z : _≡_ {A = Bool} false true = rw h at e in absurd (true≢false (sym z)))
 
 -- ---- one event
@@ -60,16 +60,16 @@ module _ (book s : List ℕ) (a : Answer) (q : a ≡ openOf book) where
   unfolding openNumber openBytes
   book-refused h = let n : eqb (bookVerdict book) 0 ≡ false = ap (λ (k : ℕ). eqb k 0) (sym verdict) ∙ ne-eqb (a .number) 0 h in (rw n verdict, rw (n, n))
 
-  pub buffer-refused : a .number ≡ 0 → length s ≢ 5171 → (9 ≡ openNumber book s) × (s ≡ openBytes book s)
+  pub buffer-refused : a .number ≡ 0 → length s ≢ tableSize → (9 ≡ openNumber book s) × (s ≡ openBytes book s)
   unfolding openNumber openBytes
   buffer-refused z h =
       let n : eqb (bookVerdict book) 0 ≡ true = eq-eqb (bookVerdict book) 0 (sym verdict ∙ z) in
-      let l : eqb (length s) 5171 ≡ false = ne-eqb (length s) 5171 h in (rw (n, l), rw (n, l))
+      let l : eqb (length s) tableSize ≡ false = ne-eqb (length s) tableSize h in (rw (n, l), rw (n, l))
 
-  pub opened : (out : List ℕ) → a .number ≡ 0 → length s ≡ 5171 → out ≡ bytesOf (a .table) → (0 ≡ openNumber book s) × (out ≡ openBytes book s)
+  pub opened : (out : List ℕ) → a .number ≡ 0 → length s ≡ tableSize → out ≡ bytesOf (a .table) → (0 ≡ openNumber book s) × (out ≡ openBytes book s)
   unfolding openNumber openBytes
   opened out z h w =
       let v : bookVerdict book ≡ 0 = sym verdict ∙ z in
       let n : eqb (bookVerdict book) 0 ≡ true = eq-eqb (bookVerdict book) 0 v in
-      let l : eqb (length s) 5171 ≡ true = eq-eqb (length s) 5171 h in
+      let l : eqb (length s) tableSize ≡ true = eq-eqb (length s) tableSize h in
       (rw (n, l), rw (n, l) (w ∙ ap (λ (x : Answer). bytesOf (x .table)) q ∙ ap bytesOf (opened-table book v)))

@@ -1,4 +1,4 @@
--- What is answered for a kept table, and what its bytes are afterwards: document 01's numbers and tables, for the 5171 bytes of `kept_read`'s layout.
+-- What is answered for a kept table, and what its bytes are afterwards: document 01's numbers and tables, for the bytes of `kept_read`'s layout.
 -- "A refusal returns its number; table and buffers are unchanged". Definitions only.
 use Prim.Native.Nat.{ℕ}
 use mathlib.Core.Bool.{cond}
@@ -9,7 +9,7 @@ use Rattle.book.specs.Book.{bookVerdict}
 use Rattle.validity.specs.Validity.{tableOk}
 use Rattle.opening.specs.Opening.{freshOf}
 use Rattle.dispatcher.specs.Step.{stepOf}
-use Rattle.kept_read.specs.Layout.{formed, tableFrom}
+use Rattle.kept_read.specs.Layout.{tableSize, formed, tableFrom}
 use Rattle.kept_write.specs.Bytes.{bytesOf}
 
 -- "Table, before any event | 9"; bytes that are no table get 9 too
@@ -26,7 +26,7 @@ stepBytes s e = cond (eqb (stepNumber s e) 0) (bytesOf (stepOf (tableFrom s) e .
 
 -- opening a book into a buffer: the book's own number first, then 9 for a buffer of another length
 unfoldable pub openNumber : List ℕ → List ℕ → ℕ
-openNumber book s = cond (eqb (bookVerdict book) 0) (cond (eqb (length s) 5171) 0 9) (bookVerdict book)
+openNumber book s = cond (eqb (bookVerdict book) 0) (cond (eqb (length s) tableSize) 0 9) (bookVerdict book)
 
 -- "a refused book opens no table"
 unfoldable pub openBytes : List ℕ → List ℕ → List ℕ

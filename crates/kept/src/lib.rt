@@ -43,7 +43,7 @@ pub fn open(book: &[u8], table: &mut [u8]) -> u8
     if verdict != 0 {
         return verdict;
     }
-    if table.len() != 5171 {
+    if table.len() != kept_read::TABLE_SIZE {
         return 9;
     }
     let fresh = opened.table;

@@ -3,13 +3,35 @@ ghost use mathlib.Core.Path.{_≡_};
 ghost use Prim.Native.Nat.{_+_, _≤_};
 ghost use lib.ListN.{length};
 ghost use lib.Ieee.{binary64, ofBits};
-ghost use Rattle.kept_read.specs.Layout.{bondFrom, jobFrom, machineFrom, messageFrom, bondsFrom, jobsFrom, machinesFrom, toldFrom, poolsFrom, messagesFrom, tableFrom, termsFormed, formed};
+ghost use Rattle.kept_read.specs.Layout.{bondSize, jobSize, machineSize, messageSize, tableSize, termsFrom, bondFrom, jobFrom, machineFrom};
+ghost use Rattle.kept_read.specs.Layout.{messageFrom};
+ghost use Rattle.kept_read.specs.Layout.{bondsFrom, jobsFrom, machinesFrom, toldFrom, poolsFrom, messagesFrom, tableFrom, termsFormed, formed};
 use pricer::Bond;
 use pricer::Terms;
 use table::Job;
 use table::Machine;
 use table::Message;
 use table::Table;
+
+// ---- the layout, as in specs/Layout.antt: the size of each element and where in it its numbers of 8 bytes are, then where each region starts
+
+pub const COUPON_AT: usize = 2;
+pub const YIELD_AT: usize = COUPON_AT + 8;
+pub const BOND_SIZE: usize = YIELD_AT + 8;
+pub const JOB_PRICE_AT: usize = 5;
+pub const JOB_SIZE: usize = JOB_PRICE_AT + 8;
+pub const MACHINE_SIZE: usize = 7;
+pub const MESSAGE_PRICE_AT: usize = 6;
+pub const MESSAGE_SIZE: usize = MESSAGE_PRICE_AT + 8;
+
+pub const BONDS_START: usize = 2;
+pub const JOBS_START: usize = BONDS_START + 64 * BOND_SIZE;
+pub const MACHINES_START: usize = JOBS_START + 64 * JOB_SIZE;
+pub const TOLD_START: usize = MACHINES_START + 16 * MACHINE_SIZE;
+pub const POOLS_START: usize = TOLD_START + 256;
+pub const USED_START: usize = POOLS_START + 1024;
+pub const MESSAGES_START: usize = USED_START + 1;
+pub const TABLE_SIZE: usize = MESSAGES_START + 128 * MESSAGE_SIZE;
 
 // ---- one element
 
@@ -23,30 +45,34 @@ fn number(bits: u64) -> f64
     f64::from_bits(bits)
 }
 
+fn terms(s: &[u8], at: usize) -> Terms
+    requires { ⌜ at + bondSize ≤ length (now s) ⌝ }
+    ensures { λ r. ⌜ r ≡ termsFrom (now (s .entry)) at ⌝ }
+{
+    let ytm = number(endian::u64_at(s, at + YIELD_AT));
+    if s[at] == 0 {
+        return Terms::Zero(ytm);
+    }
+    let coupon = number(endian::u64_at(s, at + COUPON_AT));
+    Terms::Fixed(coupon, ytm)
+}
+
 fn bond(s: &[u8], at: usize) -> Bond
-    requires { ⌜ at + 18 ≤ length (now s) ⌝ }
+    requires { ⌜ at + bondSize ≤ length (now s) ⌝ }
     ensures { λ r. ⌜ r ≡ bondFrom (now (s .entry)) at ⌝ }
 {
-    let periods = s[at + 1];
-    let ytm = number(endian::u64_at(s, at + 10));
-    if s[at] == 0 {
-        return Bond {
-            periods,
-            terms: Terms::Zero(ytm),
-        };
-    }
-    let coupon = number(endian::u64_at(s, at + 2));
+    let terms = terms(s, at);
     Bond {
-        periods,
-        terms: Terms::Fixed(coupon, ytm),
+        periods: s[at + 1],
+        terms,
     }
 }
 
 fn job(s: &[u8], at: usize) -> Job
-    requires { ⌜ at + 13 ≤ length (now s) ⌝ }
+    requires { ⌜ at + jobSize ≤ length (now s) ⌝ }
     ensures { λ r. ⌜ r ≡ jobFrom (now (s .entry)) at ⌝ }
 {
-    let price = endian::u64_at(s, at + 5);
+    let price = endian::u64_at(s, at + JOB_PRICE_AT);
     Job {
         state: s[at],
         replica: s[at + 1],
@@ -58,7 +84,7 @@ fn job(s: &[u8], at: usize) -> Job
 }
 
 fn machine(s: &[u8], at: usize) -> Machine
-    requires { ⌜ at + 7 ≤ length (now s) ⌝ }
+    requires { ⌜ at + machineSize ≤ length (now s) ⌝ }
     ensures { λ r. ⌜ r ≡ machineFrom (now (s .entry)) at ⌝ }
 {
     Machine {
@@ -73,10 +99,10 @@ fn machine(s: &[u8], at: usize) -> Machine
 }
 
 fn message(s: &[u8], at: usize) -> Message
-    requires { ⌜ at + 14 ≤ length (now s) ⌝ }
+    requires { ⌜ at + messageSize ≤ length (now s) ⌝ }
     ensures { λ r. ⌜ r ≡ messageFrom (now (s .entry)) at ⌝ }
 {
-    let price = endian::u64_at(s, at + 6);
+    let price = endian::u64_at(s, at + MESSAGE_PRICE_AT);
     Message {
         kind: s[at],
         from: s[at + 1],
@@ -91,23 +117,20 @@ fn message(s: &[u8], at: usize) -> Message
 // ---- the arrays
 
 fn bonds(s: &[u8]) -> [Bond; 64]
-    requires { ⌜ length (now s) ≡ 5171 ⌝ }
+    requires { ⌜ length (now s) ≡ tableSize ⌝ }
     ensures { λ r. ⌜ r ≡ bondsFrom (now (s .entry)) ⌝ }
 {
-    let mut out = [Bond {
-        periods: 0,
-        terms: Terms::Zero(0.0),
-    }; 64];
+    let mut out = [pricer::NO_BOND; 64];
     let mut i: usize = 0;
     while i < 64 {
-        out[i] = bond(s, 2 + 18 * i);
+        out[i] = bond(s, BONDS_START + BOND_SIZE * i);
         i += 1;
     }
     out
 }
 
 fn jobs(s: &[u8]) -> [Job; 64]
-    requires { ⌜ length (now s) ≡ 5171 ⌝ }
+    requires { ⌜ length (now s) ≡ tableSize ⌝ }
     ensures { λ r. ⌜ r ≡ jobsFrom (now (s .entry)) ⌝ }
 {
     let mut out = [Job {
@@ -120,14 +143,14 @@ fn jobs(s: &[u8]) -> [Job; 64]
     }; 64];
     let mut i: usize = 0;
     while i < 64 {
-        out[i] = job(s, 1154 + 13 * i);
+        out[i] = job(s, JOBS_START + JOB_SIZE * i);
         i += 1;
     }
     out
 }
 
 fn machines(s: &[u8]) -> [Machine; 16]
-    requires { ⌜ length (now s) ≡ 5171 ⌝ }
+    requires { ⌜ length (now s) ≡ tableSize ⌝ }
     ensures { λ r. ⌜ r ≡ machinesFrom (now (s .entry)) ⌝ }
 {
     let mut out = [Machine {
@@ -141,46 +164,46 @@ fn machines(s: &[u8]) -> [Machine; 16]
     }; 16];
     let mut i: usize = 0;
     while i < 16 {
-        out[i] = machine(s, 1986 + 7 * i);
+        out[i] = machine(s, MACHINES_START + MACHINE_SIZE * i);
         i += 1;
     }
     out
 }
 
 fn told(s: &[u8]) -> [u8; 256]
-    requires { ⌜ length (now s) ≡ 5171 ⌝ }
+    requires { ⌜ length (now s) ≡ tableSize ⌝ }
     ensures { λ r. ⌜ r ≡ toldFrom (now (s .entry)) ⌝ }
 {
     let mut out = [0; 256];
     let mut i: usize = 0;
     while i < 256 {
-        out[i] = s[2098 + i];
+        out[i] = s[TOLD_START + i];
         i += 1;
     }
     out
 }
 
 fn pools(s: &[u8]) -> [u8; 1024]
-    requires { ⌜ length (now s) ≡ 5171 ⌝ }
+    requires { ⌜ length (now s) ≡ tableSize ⌝ }
     ensures { λ r. ⌜ r ≡ poolsFrom (now (s .entry)) ⌝ }
 {
     let mut out = [0; 1024];
     let mut i: usize = 0;
     while i < 1024 {
-        out[i] = s[2354 + i];
+        out[i] = s[POOLS_START + i];
         i += 1;
     }
     out
 }
 
 fn messages(s: &[u8]) -> [Message; 128]
-    requires { ⌜ length (now s) ≡ 5171 ⌝ }
+    requires { ⌜ length (now s) ≡ tableSize ⌝ }
     ensures { λ r. ⌜ r ≡ messagesFrom (now (s .entry)) ⌝ }
 {
     let mut out = [table::NO_MESSAGE; 128];
     let mut i: usize = 0;
     while i < 128 {
-        out[i] = message(s, 3379 + 14 * i);
+        out[i] = message(s, MESSAGES_START + MESSAGE_SIZE * i);
         i += 1;
     }
     out
@@ -188,9 +211,9 @@ fn messages(s: &[u8]) -> [Message; 128]
 
 // ---- the whole
 
-// The table of 5171 bytes.
+// The table of the bytes.
 pub fn read(s: &[u8]) -> Table
-    requires { ⌜ length (now s) ≡ 5171 ⌝ }
+    requires { ⌜ length (now s) ≡ tableSize ⌝ }
     ensures { λ r. ⌜ r ≡ tableFrom (now (s .entry)) ⌝ }
 {
     let bonds = bonds(s);
@@ -207,29 +230,29 @@ pub fn read(s: &[u8]) -> Table
         nodes,
         told,
         pools,
-        in_flight: s[3378],
+        in_flight: s[USED_START],
         messages,
     }
 }
 
 // Whether the terms at an index are those of one of the two cases.
 fn terms_formed(s: &[u8], at: usize) -> bool
-    requires { ⌜ at + 18 ≤ length (now s) ⌝ }
+    requires { ⌜ at + bondSize ≤ length (now s) ⌝ }
     ensures { λ r. ⌜ r ≡ termsFormed (now (s .entry)) at ⌝ }
 {
-    (s[at] == 0) & (endian::u64_at(s, at + 2) == 0) | (s[at] == 1)
+    (s[at] == 0) & (endian::u64_at(s, at + COUPON_AT) == 0) | (s[at] == 1)
 }
 
 // Whether the bytes are those of a table.
 pub fn formed(s: &[u8]) -> bool
     ensures { λ r. ⌜ r ≡ formed (now (s .entry)) ⌝ }
 {
-    if s.len() != 5171 {
+    if s.len() != TABLE_SIZE {
         return false;
     }
     let mut i: usize = 0;
     while i < 64 {
-        if !terms_formed(s, 2 + 18 * i) {
+        if !terms_formed(s, BONDS_START + BOND_SIZE * i) {
             return false;
         }
         i += 1;

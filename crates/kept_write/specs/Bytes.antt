@@ -1,6 +1,6 @@
--- The 5171 bytes of a kept table, region after region in the order of document 01, "The table". Definitions only.
--- The offsets of the regions, and what the numbers in them stand for, are at the head of `kept_read`'s specs/Layout.antt.
-use Prim.Native.Nat.{ℕ, _/_, _%_}
+-- The bytes of a kept table, region after region in the order of document 01, "The table". Definitions only.
+-- The sizes and places of the regions, and what the numbers in them stand for, are in `kept_read`'s specs/Layout.antt.
+use Prim.Native.Nat.{ℕ, _+_, _*_, _/_, _%_}
 use mathlib.Core.List.{List, [], _∷_, _++_}
 use lib.ListN.{getD}
 use lib.Ieee.{binary64, toBits}
@@ -12,6 +12,7 @@ use Rattle.table.specs.declared.Job.{Job}
 use Rattle.table.specs.declared.Machine.{Machine}
 use Rattle.table.specs.declared.Message.{Message}
 use Rattle.table.specs.declared.Table.{Table}
+use Rattle.kept_read.specs.Layout.{machineSize, messageSize, machinesStart}
 use Rattle.table.specs.Views.{noJob, noMachine, noMessage, pastBond}
 
 -- ---- numbers, "little-endian": the lower half first
@@ -27,18 +28,23 @@ bytes64 x = bytes32 (x % 4294967296) ++ bytes32 (x / 4294967296)
 
 -- ---- one element
 
+-- a zero-coupon bond is case 0, a fixed one is case 1
+abbrev pub caseOf : Terms → ℕ
+caseOf (Zero y) = 0
+caseOf (Fixed c y) = 1
+
+-- the coupon of a zero-coupon bond "has all 64 bits clear"
+abbrev pub couponBits : Terms → ℕ
+couponBits (Zero y) = 0
+couponBits (Fixed c y) = toBits binary64 c
+
+abbrev pub yieldBits : Terms → ℕ
+yieldBits (Zero y) = toBits binary64 y
+yieldBits (Fixed c y) = toBits binary64 y
+
 -- "the terms of each entry": case, periods, coupon bits, yield bits
-unfoldable pub termsBytes : ℕ → ℕ → ℕ → ℕ → List ℕ
-termsBytes variant periods coupon ytm = (variant ∷ periods ∷ []) ++ bytes64 coupon ++ bytes64 ytm
-
--- a zero-coupon bond is case 0, and its coupon "has all 64 bits clear"; a fixed one is case 1
-abbrev pub casesBytes : ℕ → Terms → List ℕ
-casesBytes n (Zero y) = termsBytes 0 n 0 (toBits binary64 y)
-casesBytes n (Fixed c y) = termsBytes 1 n (toBits binary64 c) (toBits binary64 y)
-
--- the 18 bytes of an entry's terms
 unfoldable pub bondBytes : Bond → List ℕ
-bondBytes b = casesBytes (b .periods) (b .terms)
+bondBytes b = (caseOf (b .terms) ∷ b .periods ∷ []) ++ bytes64 (couponBits (b .terms)) ++ bytes64 (yieldBits (b .terms))
 
 -- "for each job": state, replica, moving, holder, thief, price bits
 unfoldable pub jobBytes : Job → List ℕ
@@ -68,18 +74,27 @@ messagesBytes l = joined (λ i. messageBytes (getD l i noMessage)) 128
 
 -- ---- the whole
 
--- the counts, the terms of each entry and the jobs: 1986 bytes
+-- the counts, the terms of each entry and the jobs
 unfoldable pub entriesBytes : Table → List ℕ
 entriesBytes t = (t .machines ∷ t .entries ∷ []) ++ bondsBytes (t .bonds) ++ jobsBytes (t .jobs)
 
--- the machines, what each was told and its pool: 1392 bytes
+abbrev pub entriesSize : ℕ
+entriesSize = machinesStart
+
+-- the machines, what each was told and its pool
 unfoldable pub fleetBytes : Table → List ℕ
 fleetBytes t = machinesBytes (t .nodes) ++ t .told ++ t .pools
 
--- how many messages are in flight, and the messages: 1793 bytes
+abbrev pub fleetSize : ℕ
+fleetSize = 16 * machineSize + 256 + 1024
+
+-- how many messages are in flight, and the messages
 unfoldable pub flightBytes : Table → List ℕ
 flightBytes t = (t .«in_flight» ∷ []) ++ messagesBytes (t .messages)
 
--- all 5171 bytes
+abbrev pub flightSize : ℕ
+flightSize = 1 + 128 * messageSize
+
+-- all of them
 unfoldable pub bytesOf : Table → List ℕ
 bytesOf t = entriesBytes t ++ fleetBytes t ++ flightBytes t

@@ -1,9 +1,13 @@
-// Writing a kept table: its 5171 bytes into a lent buffer. Each function writes from a position on and answers the position after what it wrote.
+// Writing a kept table: its bytes into a lent buffer. Each function writes from a position on and answers the position after what it wrote.
 ghost use mathlib.Core.Path.{_≡_};
-ghost use Prim.Native.Nat.{_+_, _≤_};
+ghost use Prim.Native.Nat.{_+_, _*_, _≤_};
 ghost use lib.ListN.{length};
 ghost use Rattle.text.specs.Text.{Written};
-ghost use Rattle.kept_write.specs.Bytes.{bytes16, bytes32, bytes64, termsBytes, bondBytes, jobBytes, machineBytes, messageBytes, bondsBytes, jobsBytes, machinesBytes, messagesBytes, entriesBytes, fleetBytes, flightBytes, bytesOf};
+ghost use Rattle.kept_read.specs.Layout.{bondSize, jobSize, machineSize, messageSize, tableSize};
+ghost use Rattle.kept_write.specs.Bytes.{entriesSize, fleetSize, flightSize, bytes16, bytes32, bytes64, caseOf, couponBits, yieldBits};
+ghost use Rattle.kept_write.specs.Bytes.{bondBytes, jobBytes};
+ghost use Rattle.kept_write.specs.Bytes.{machineBytes, messageBytes, bondsBytes, jobsBytes, machinesBytes, messagesBytes, entriesBytes};
+ghost use Rattle.kept_write.specs.Bytes.{fleetBytes, flightBytes, bytesOf};
 use pricer::Bond;
 use pricer::Terms;
 use table::Job;
@@ -39,30 +43,46 @@ fn put_u64(out: &mut [u8], at: usize, x: u64) -> usize
 
 // ---- one element
 
-fn put_terms(out: &mut [u8], at: usize, variant: u8, periods: u8, coupon: u64, ytm: u64) -> usize
-    requires { ⌜ at + 18 ≤ length (now out) ⌝ }
-    ensures { λ r. ⌜ Written (now (out .entry)) at (termsBytes variant periods coupon ytm) (now (out .exit)) r ⌝ }
+fn case_of(t: Terms) -> u8
+    ensures { λ r. ⌜ r ≡ caseOf t ⌝ }
 {
-    let first = [variant, periods];
-    let a = text::put(out, at, &first);
-    let b = put_u64(out, a, coupon);
-    put_u64(out, b, ytm)
-}
-
-fn put_bond(out: &mut [u8], at: usize, b: Bond) -> usize
-    requires { ⌜ at + 18 ≤ length (now out) ⌝ }
-    ensures { λ r. ⌜ Written (now (out .entry)) at (bondBytes b) (now (out .exit)) r ⌝ }
-{
-    let n = b.periods;
-    let t = b.terms;
     match t {
-        Terms::Zero(y) => put_terms(out, at, 0, n, 0, pricer::bits(y)),
-        Terms::Fixed(c, y) => put_terms(out, at, 1, n, pricer::bits(c), pricer::bits(y)),
+        Terms::Zero(_) => 0,
+        Terms::Fixed(_, _) => 1,
     }
 }
 
+fn coupon_bits(t: Terms) -> u64
+    ensures { λ r. ⌜ r ≡ couponBits t ⌝ }
+{
+    match t {
+        Terms::Zero(_) => 0,
+        Terms::Fixed(c, _) => pricer::bits(c),
+    }
+}
+
+fn yield_bits(t: Terms) -> u64
+    ensures { λ r. ⌜ r ≡ yieldBits t ⌝ }
+{
+    match t {
+        Terms::Zero(y) => pricer::bits(y),
+        Terms::Fixed(_, y) => pricer::bits(y),
+    }
+}
+
+fn put_bond(out: &mut [u8], at: usize, b: Bond) -> usize
+    requires { ⌜ at + bondSize ≤ length (now out) ⌝ }
+    ensures { λ r. ⌜ Written (now (out .entry)) at (bondBytes b) (now (out .exit)) r ⌝ }
+{
+    let t = b.terms;
+    let first = [case_of(t), b.periods];
+    let a = text::put(out, at, &first);
+    let e = put_u64(out, a, coupon_bits(t));
+    put_u64(out, e, yield_bits(t))
+}
+
 fn put_job(out: &mut [u8], at: usize, v: Job) -> usize
-    requires { ⌜ at + 13 ≤ length (now out) ⌝ }
+    requires { ⌜ at + jobSize ≤ length (now out) ⌝ }
     ensures { λ r. ⌜ Written (now (out .entry)) at (jobBytes v) (now (out .exit)) r ⌝ }
 {
     let first = [v.state, v.replica, v.moving, v.holder, v.thief];
@@ -71,7 +91,7 @@ fn put_job(out: &mut [u8], at: usize, v: Job) -> usize
 }
 
 fn put_machine(out: &mut [u8], at: usize, n: Machine) -> usize
-    requires { ⌜ at + 7 ≤ length (now out) ⌝ }
+    requires { ⌜ at + machineSize ≤ length (now out) ⌝ }
     ensures { λ r. ⌜ Written (now (out .entry)) at (machineBytes n) (now (out .exit)) r ⌝ }
 {
     let all = [
@@ -87,7 +107,7 @@ fn put_machine(out: &mut [u8], at: usize, n: Machine) -> usize
 }
 
 fn put_message(out: &mut [u8], at: usize, m: Message) -> usize
-    requires { ⌜ at + 14 ≤ length (now out) ⌝ }
+    requires { ⌜ at + messageSize ≤ length (now out) ⌝ }
     ensures { λ r. ⌜ Written (now (out .entry)) at (messageBytes m) (now (out .exit)) r ⌝ }
 {
     let first = [m.kind, m.from, m.to, m.job, m.replica, m.thief];
@@ -98,7 +118,7 @@ fn put_message(out: &mut [u8], at: usize, m: Message) -> usize
 // ---- the arrays
 
 fn put_bonds(out: &mut [u8], at: usize, bonds: [Bond; 64]) -> usize
-    requires { ⌜ at + 1152 ≤ length (now out) ⌝ }
+    requires { ⌜ at + 64 * bondSize ≤ length (now out) ⌝ }
     ensures { λ r. ⌜ Written (now (out .entry)) at (bondsBytes bonds) (now (out .exit)) r ⌝ }
 {
     let mut end = at;
@@ -111,7 +131,7 @@ fn put_bonds(out: &mut [u8], at: usize, bonds: [Bond; 64]) -> usize
 }
 
 fn put_jobs(out: &mut [u8], at: usize, jobs: [Job; 64]) -> usize
-    requires { ⌜ at + 832 ≤ length (now out) ⌝ }
+    requires { ⌜ at + 64 * jobSize ≤ length (now out) ⌝ }
     ensures { λ r. ⌜ Written (now (out .entry)) at (jobsBytes jobs) (now (out .exit)) r ⌝ }
 {
     let mut end = at;
@@ -124,7 +144,7 @@ fn put_jobs(out: &mut [u8], at: usize, jobs: [Job; 64]) -> usize
 }
 
 fn put_machines(out: &mut [u8], at: usize, machines: [Machine; 16]) -> usize
-    requires { ⌜ at + 112 ≤ length (now out) ⌝ }
+    requires { ⌜ at + 16 * machineSize ≤ length (now out) ⌝ }
     ensures { λ r. ⌜ Written (now (out .entry)) at (machinesBytes machines) (now (out .exit)) r ⌝ }
 {
     let mut end = at;
@@ -137,7 +157,7 @@ fn put_machines(out: &mut [u8], at: usize, machines: [Machine; 16]) -> usize
 }
 
 fn put_messages(out: &mut [u8], at: usize, messages: [Message; 128]) -> usize
-    requires { ⌜ at + 1792 ≤ length (now out) ⌝ }
+    requires { ⌜ at + 128 * messageSize ≤ length (now out) ⌝ }
     ensures { λ r. ⌜ Written (now (out .entry)) at (messagesBytes messages) (now (out .exit)) r ⌝ }
 {
     let mut end = at;
@@ -152,6 +172,7 @@ fn put_messages(out: &mut [u8], at: usize, messages: [Message; 128]) -> usize
 fn put_told(out: &mut [u8], at: usize, told: [u8; 256]) -> usize
     requires { ⌜ at + 256 ≤ length (now out) ⌝ }
     ensures { λ r. ⌜ Written (now (out .entry)) at told (now (out .exit)) r ⌝ }
+    ensures { λ r. ⌜ r ≡ at + 256 ⌝ }
 {
     text::put(out, at, &told)
 }
@@ -159,6 +180,7 @@ fn put_told(out: &mut [u8], at: usize, told: [u8; 256]) -> usize
 fn put_pools(out: &mut [u8], at: usize, pools: [u8; 1024]) -> usize
     requires { ⌜ at + 1024 ≤ length (now out) ⌝ }
     ensures { λ r. ⌜ Written (now (out .entry)) at pools (now (out .exit)) r ⌝ }
+    ensures { λ r. ⌜ r ≡ at + 1024 ⌝ }
 {
     text::put(out, at, &pools)
 }
@@ -167,7 +189,7 @@ fn put_pools(out: &mut [u8], at: usize, pools: [u8; 1024]) -> usize
 
 // The counts, the terms of each entry and the jobs.
 fn put_entries(out: &mut [u8], at: usize, t: Table) -> usize
-    requires { ⌜ at + 1986 ≤ length (now out) ⌝ }
+    requires { ⌜ at + entriesSize ≤ length (now out) ⌝ }
     ensures { λ r. ⌜ Written (now (out .entry)) at (entriesBytes t) (now (out .exit)) r ⌝ }
 {
     let bonds = t.bonds;
@@ -180,8 +202,9 @@ fn put_entries(out: &mut [u8], at: usize, t: Table) -> usize
 
 // The machines, what each was told and its pool.
 fn put_fleet(out: &mut [u8], at: usize, t: Table) -> usize
-    requires { ⌜ at + 1392 ≤ length (now out) ⌝ }
+    requires { ⌜ at + fleetSize ≤ length (now out) ⌝ }
     ensures { λ r. ⌜ Written (now (out .entry)) at (fleetBytes t) (now (out .exit)) r ⌝ }
+    ensures { λ r. ⌜ r ≡ at + fleetSize ⌝ }
 {
     let machines = t.nodes;
     let told = t.told;
@@ -193,7 +216,7 @@ fn put_fleet(out: &mut [u8], at: usize, t: Table) -> usize
 
 // How many messages are in flight, and the messages.
 fn put_flight(out: &mut [u8], at: usize, t: Table) -> usize
-    requires { ⌜ at + 1793 ≤ length (now out) ⌝ }
+    requires { ⌜ at + flightSize ≤ length (now out) ⌝ }
     ensures { λ r. ⌜ Written (now (out .entry)) at (flightBytes t) (now (out .exit)) r ⌝ }
 {
     let messages = t.messages;
@@ -202,9 +225,9 @@ fn put_flight(out: &mut [u8], at: usize, t: Table) -> usize
     put_messages(out, a, messages)
 }
 
-// Writes the table over a buffer of 5171 bytes.
+// Writes the table over a buffer of its size.
 pub fn write(t: Table, out: &mut [u8])
-    requires { ⌜ length (now out) ≡ 5171 ⌝ }
+    requires { ⌜ length (now out) ≡ tableSize ⌝ }
     ensures { λ _. ⌜ now (out .exit) ≡ bytesOf t ⌝ }
 {
     let a = put_entries(out, 0, t);

@@ -12,7 +12,8 @@ use Rattle.lists.proofs.Scans.{length-pad, length-tabulate, pad-at, pad-past}
 use Rattle.lists.proofs.Cases.{byBool}
 use Rattle.lists.proofs.Count.{getD-same}
 use Rattle.book.specs.Book.{bookVerdict}
-use Rattle.book.specs.Parts.{machineCount, entryCount, noBond, bondOf}
+use Rattle.pricer.specs.Bonds.{noBond}
+use Rattle.book.specs.Parts.{machineCount, entryCount, bondOf}
 use Rattle.book.proofs.Accepted.{bond-past}
 use Rattle.table.specs.Views.{noJob, noMachine, noMessage, pastBond, bondAt, jobAt, nodeAt, poolAt, toldAt, flight}
 use Rattle.table.proofs.Views.{Sized}

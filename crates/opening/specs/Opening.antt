@@ -7,7 +7,8 @@ use lib.ListN.{replicate}
 use Rattle.lists.specs.Scan.{padTo, tabulate}
 use Rattle.pricer.specs.declared.Bond.{Bond}
 use Rattle.book.specs.Book.{bookVerdict}
-use Rattle.book.specs.Parts.{machineCount, entryCount, noBond, bondOf}
+use Rattle.pricer.specs.Bonds.{noBond}
+use Rattle.book.specs.Parts.{machineCount, entryCount, bondOf}
 use Rattle.table.specs.declared.Machine.{Machine}
 use Rattle.table.specs.declared.Table.{Table}
 use Rattle.table.specs.declared.Answer.{Answer}

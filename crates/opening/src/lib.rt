@@ -3,11 +3,10 @@ ghost use mathlib.Core.Path.{_≡_};
 ghost use Prim.Native.Nat.{_≤_};
 ghost use lib.ListN.{replicate};
 ghost use Rattle.lists.specs.Scan.{upTo};
-ghost use Rattle.book.specs.Parts.{noBond};
+ghost use Rattle.pricer.specs.Bonds.{noBond};
 ghost use Rattle.table.specs.Views.{withNode};
 ghost use Rattle.opening.specs.Opening.{blank, quiet, bondsOf, freshOf, noTable, openOf};
 use pricer::Bond;
-use pricer::Terms;
 use table::Answer;
 use table::Job;
 use table::Machine;
@@ -32,11 +31,7 @@ fn machine(alive: u8) -> Machine
 fn no_bonds() -> [Bond; 64]
     ensures { λ r. ⌜ r ≡ replicate 64 noBond ⌝ }
 {
-    let none = Bond {
-        periods: 0,
-        terms: Terms::Zero(0.0),
-    };
-    [none; 64]
+    [pricer::NO_BOND; 64]
 }
 
 // The bonds of an accepted book's entries, and no bond past the last one.

@@ -1,4 +1,4 @@
--- How long the lines of a page are at most, and the page itself: length (pageOf book events) ≤ 463,072. Assumes nothing.
+-- How long the lines of a page are at most, and the page itself: length (pageOf book events) ≤ longest. Assumes nothing.
 use Prim.Native.Nat.{ℕ, _+_, _*_, _≤_, _<_}
 use mathlib.Core.Path.{_≡_, sym, _∙_}
 use mathlib.Core.Bool.{true}
@@ -27,7 +27,7 @@ use Rattle.dispatcher.specs.Step.{runOf, answersOf}
 use Rattle.dispatcher.proofs.Kept.{run-ok, run-sized}
 use Rattle.run.specs.Run.{eventAt, eventCount, eventsIn, refusals}
 use Rattle.run.proofs.Turns.{refusals-most}
-use Rattle.page.specs.Page.{eventsOf, entriesText, runText, textFrom, pageOf, longest}
+use Rattle.page.specs.Page.{eventsOf, entriesText, runText, textFrom, pageOf, refusalsMost, entriesMost, longest}
 use Rattle.opening.proofs.Shown.{opened-number}
 use Rattle.fresh.proofs.Passes.{opened-passes, opened-sized}
 use Rattle.page.proofs.Opened.{number-small}
@@ -55,13 +55,13 @@ module _ (book : List ℕ) (t : Table) (s : Sized t) (h : tableOk t ≡ true) wh
   pub lines-most : (n : ℕ) → n ≤ 64 → length (joined (lineOf book t) n) ≤ n * 48
   lines-most n l = joined-most (lineOf book t) 48 n (λ i k. line-most i (omega arith))
 
-  pub entries-most : length (entriesText book t) ≤ 3072
+  pub entries-most : length (entriesText book t) ≤ entriesMost
   unfolding entriesText
   entries-most = omega (arith, lines-most (entryCount book) (counts.entries-most book), counts.entries-most book)
 
 -- ---- the events
 
-pub listed-most : (t : Table) (s : List ℕ) → length s ≤ 60000 → length (refusals 1 (answersOf t (eventsIn s))) ≤ 460000
+pub listed-most : (t : Table) (s : List ℕ) → length s ≤ 60000 → length (refusals 1 (answersOf t (eventsIn s))) ≤ refusalsMost
 unfolding eventsIn
 listed-most t s h =
     omega (arith, refusals-most 1 t (eventsIn s), length-tabulate (eventAt s) 0 [] (eventCount s))

@@ -1,5 +1,5 @@
 -- Document 01, "The program's page": the text that is printed for a book and a list of events. Definitions only.
-use Prim.Native.Nat.{ℕ}
+use Prim.Native.Nat.{ℕ, _+_, _*_}
 use mathlib.Core.Path.{_≡_}
 use mathlib.Core.Bool.{true, false, cond}
 use mathlib.Core.List.{List, _++_}
@@ -39,9 +39,17 @@ pageOf book events =
     cond (eqb (openOf book .number) 0) (textFrom book (openOf book .table) (eventsOf events))
     (bookRefused (openOf book .number))
 
--- no page is longer (proofs/Longest.antt): 20,000 events of at most 23 bytes each, 64 entries of at most 48
+-- the lines of 20,000 refused events, at most 23 bytes each
+abbrev pub refusalsMost : ℕ
+refusalsMost = 20000 * 23
+
+-- the lines of 64 entries, at most 48 bytes each
+abbrev pub entriesMost : ℕ
+entriesMost = 64 * 48
+
+-- no page is longer (proofs/Longest.antt)
 abbrev pub longest : ℕ
-longest = 463072
+longest = refusalsMost + entriesMost
 
 -- what the function page leaves: a buffer shorter than that is refused and unchanged; otherwise the page stands at its front, and the rest of it is
 -- unchanged

@@ -7,11 +7,11 @@ ghost use Rattle.text.specs.Text.{Written};
 ghost use Rattle.book.specs.Book.{bookVerdict};
 ghost use Rattle.validity.specs.Validity.{tableOk};
 ghost use Rattle.run.specs.Run.{eventsIn};
-ghost use Rattle.page.specs.Page.{eventsOf, entriesText, textFrom, pageOf, longest, bufferOf, printedOf, Reported};
+ghost use Rattle.page.specs.Page.{eventsOf, entriesText, textFrom, pageOf, entriesMost, longest, bufferOf, printedOf, Reported};
 use table::Table;
 
-// No page is longer.
-pub const LONGEST: usize = 463072;
+// No page is longer: the lines of 20,000 refused events and of 64 entries.
+pub const LONGEST: usize = 20000 * 23 + 64 * 48;
 
 // Whether the buffer was long enough, and the length of the page, 0 where it was not.
 pub struct Printed {
@@ -22,7 +22,7 @@ pub struct Printed {
 // The lines of the entries, by a table that passes check 9.
 fn put_entries(book: &[u8], t: Table, out: &mut [u8], at: usize) -> usize
     requires { ⌜ tableOk t ≡ true ⌝ }
-    requires { ⌜ at + 3072 ≤ length (now out) ⌝ }
+    requires { ⌜ at + entriesMost ≤ length (now out) ⌝ }
     ensures { λ r. ⌜ Written (now (out .entry)) at (entriesText (now (book .entry)) t) (now (out .exit)) r ⌝ }
 {
     let n = book::entries(book) as usize;

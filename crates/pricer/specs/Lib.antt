@@ -1,2 +1,3 @@
 pub mod Price
 pub mod Range
+pub mod Bonds

@@ -3,6 +3,7 @@
 ghost use mathlib.Core.Path.{_≡_};
 ghost use lib.Ieee.{binary64, toBits};
 ghost use Rattle.pricer.specs.Price.{zeroPrice, fixedPrice, priceOf, priceBits};
+ghost use Rattle.pricer.specs.Bonds.{withTerms};
 ghost use Rattle.pricer.specs.Range.{couponInRange, yieldInRange, termsInRange, inRange};
 
 // The terms of a bond: a zero-coupon bond has its annual yield, a fixed coupon bond its annual coupon per 100 of face and its annual yield.
@@ -17,11 +18,27 @@ pub struct Bond {
     pub terms: Terms,
 }
 
+// What stands where there is no bond: no periods, and a zero's terms, all bits clear.
+pub const NO_BOND: Bond = Bond {
+    periods: 0,
+    terms: Terms::Zero(0.0),
+};
+
 // What the pricer is handed for a fixed coupon bond. The yield (to maturity) is named ytm, since `yield` is a word of the language.
 pub struct FixedBond {
     pub periods: u8,
     pub coupon: f64,
     pub ytm: f64,
+}
+
+// The bond with other terms.
+pub fn with_terms(b: Bond, t: Terms) -> Bond
+    ensures { λ r. ⌜ r ≡ withTerms b t ⌝ }
+{
+    Bond {
+        periods: b.periods,
+        terms: t,
+    }
 }
 
 pub fn price_zero(periods: u8, ytm: f64) -> f64

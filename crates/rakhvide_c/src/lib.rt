@@ -11,7 +11,8 @@ ghost use Rattle.book.specs.Book.{bookVerdict};
 ghost use Rattle.page.specs.Page.{eventsOf, printedOf, bufferOf, Reported};
 ghost use Rattle.kept.specs.Kept.{checkOf, stepNumber, stepBytes, openNumber, openBytes};
 ghost use Rattle.rakhvide_c.specs.Terms.{termBits};
-use pricer::FixedBond;
+use pricer::Bond;
+use pricer::Terms;
 use term::Reading;
 
 // 0 for an identifier that passes, 4 for its form, 5 for its check digit.
@@ -66,7 +67,10 @@ pub extern "C" fn rakhvide_term(term: &[u8], bits: &mut u64) -> u8
 pub extern "C" fn rakhvide_price_zero(periods: u8, ytm: f64) -> u64
     ensures { λ r. ⌜ r ≡ toBits binary64 (zeroPrice ytm periods) ⌝ }
 {
-    pricer::bits(pricer::price_zero(periods, ytm))
+    pricer::price_bits(Bond {
+        periods,
+        terms: Terms::Zero(ytm),
+    })
 }
 
 // The bits of a fixed coupon bond's price.
@@ -74,11 +78,10 @@ pub extern "C" fn rakhvide_price_zero(periods: u8, ytm: f64) -> u64
 pub extern "C" fn rakhvide_price_fixed(periods: u8, coupon: f64, ytm: f64) -> u64
     ensures { λ r. ⌜ r ≡ toBits binary64 (fixedPrice (record { periods = periods; coupon = coupon; ytm = ytm })) ⌝ }
 {
-    pricer::bits(pricer::price_fixed(FixedBond {
+    pricer::price_bits(Bond {
         periods,
-        coupon,
-        ytm,
-    }))
+        terms: Terms::Fixed(coupon, ytm),
+    })
 }
 
 // Runs the events on the fresh table of the book, and writes the page to the front of the buffer and its length. A buffer that is too short is left as it

@@ -5,13 +5,13 @@ use mathlib.Core.Bool.{Bool, true, false, not, true≢false}
 use mathlib.Core.List.{List, [], _∷_}
 use native.Mathlib.Omega.{arith}
 use lib.Dec.{T, eqb, ltb}
-use lib.Ieee.{Float, nan, inf, fin, binary64, le, isNan, toBits}
+use lib.Ieee.{Float, nan, inf, fin, binary64, isNan, toBits}
 use lib.ListN.{length, getD}
 use lib.Seq.{take-all}
 use Rattle.lists.specs.Scan.{all}
-use Rattle.lists.proofs.Cases.{byBool, and-left, and-right}
+use Rattle.lists.proofs.Cases.{byBool, and-right}
 use Rattle.lists.proofs.Scans.{all-at, tabulate-at}
-use Rattle.pricer.specs.Range.{nought, couponInRange, yieldInRange, periodsInRange, termsInRange, inRange}
+use Rattle.pricer.proofs.Real.{RatesReal, rates-real}
 use Rattle.pricer.specs.declared.Bond.{Bond}
 use Rattle.pricer.specs.declared.Terms.{Terms}
 use Rattle.pricer.specs.declared.Terms.the-variants.{Zero, Fixed}
@@ -19,19 +19,17 @@ use Rattle.table.specs.Views.{noJob, noMachine, noMessage, pastBond, bondAt}
 use Rattle.elements.specs.Elements.{noTerms, bondOk}
 use Rattle.validity.specs.Validity.{tableOk}
 use Rattle.preservation.proofs.Ok.{tests}
-use Rattle.kept_read.specs.Layout.{bondFrom, jobFrom, machineFrom, messageFrom, bondsFrom, jobsFrom, machinesFrom, toldFrom, poolsFrom, messagesFrom, tableFrom, termsFormed, formed}
-use Rattle.kept_write.specs.Bytes.{bondBytes, jobBytes, machineBytes, messageBytes, bondsBytes, jobsBytes, machinesBytes, messagesBytes, entriesBytes, fleetBytes, flightBytes, bytesOf}
+use Rattle.kept_read.specs.Layout.{bondSize, jobSize, machineSize, messageSize, bondsStart, jobsStart, machinesStart, toldStart, poolsStart}
+use Rattle.kept_read.specs.Layout.{usedStart, messagesStart, tableSize, bondStart, jobStart, machineStart, messageStart, bondFrom, jobFrom}
+use Rattle.kept_read.specs.Layout.{machineFrom, messageFrom, bondsFrom, jobsFrom, machinesFrom, toldFrom, poolsFrom, messagesFrom, tableFrom}
+use Rattle.kept_read.specs.Layout.{termsFormed, formed}
+use Rattle.kept_write.specs.Bytes.{entriesSize, fleetSize, flightSize, bondBytes, jobBytes, machineBytes, messageBytes, bondsBytes, jobsBytes}
+use Rattle.kept_write.specs.Bytes.{machinesBytes, messagesBytes, entriesBytes, fleetBytes, flightBytes, bytesOf}
 use Rattle.kept.proofs.Answers.{formed-length}
 use Rattle.round_trip.specs.Again.{AreBytes}
-use Rattle.round_trip.proofs.Parts.{RatesReal, part, both, start, next, listed, elements, bond-part, job-part, machine-part, message-part}
+use Rattle.round_trip.proofs.Parts.{part, both, start, next, listed, elements, bond-part, job-part, machine-part, message-part}
 
 -- ---- no rate of a table that passes is a NaN
-
-le-real : (x : Float) → le nought x ≡ true → T (not (isNan x))
-unfolding le isNan
-le-real nan h = absurd (true≢false (sym h))
-le-real (inf s) h = tt
-le-real (fin s m e) h = tt
 
 bits-real : (x : Float) → eqb (toBits binary64 x) 0 ≡ true → T (not (isNan x))
 unfolding toBits isNan
@@ -39,97 +37,93 @@ bits-real nan h = absurd (true≢false (sym h))
 bits-real (inf s) h = tt
 bits-real (fin s m e) h = tt
 
-yield-real : (y : Float) → yieldInRange y ≡ true → T (not (isNan y))
-yield-real y h = le-real y (and-left _ _ h)
-
-terms-real : (t : Terms) → termsInRange t ≡ true → RatesReal t
-terms-real (Zero y) h = yield-real y h
-terms-real (Fixed c y) h = (le-real c (and-left _ _ (and-left (couponInRange c) (yieldInRange y) h)), yield-real y (and-right (couponInRange c) (yieldInRange y) h))
-
 none-real : (t : Terms) → noTerms t ≡ true → RatesReal t
 none-real (Zero y) h = bits-real y h
 none-real (Fixed c y) h = absurd (true≢false (sym h))
 
 bond-real : (n j : ℕ) (b : Bond) → bondOk n j b ≡ true → RatesReal (b .terms)
-unfolding inRange
 bond-real n j b h =
     byBool (ltb j n)
-    (λ e. terms-real (b .terms) (and-right (periodsInRange (b .periods)) (termsInRange (b .terms)) (rw e at h)))
+    (λ e. rates-real b (rw e at h))
     (λ e. none-real (b .terms) (and-right (eqb (b .periods) 0) (noTerms (b .terms)) (rw e at h)))
 
 -- ---- each region is those bytes of s
 
-module _ (s : List ℕ) (small : AreBytes s) (l : length s ≡ 5171) where
-  jobs-part : jobsBytes (jobsFrom s) ≡ part s 1154 832
+module _ (s : List ℕ) (small : AreBytes s) (l : length s ≡ tableSize) where
+  jobs-part : jobsBytes (jobsFrom s) ≡ part s jobsStart (64 * jobSize)
   unfolding jobsBytes jobsFrom
   jobs-part =
-      elements s _ 1154 13 64
-      (λ i k. ap jobBytes (tabulate-at (λ j. jobFrom s (1154 + 13 * j)) 64 noJob 64 i noJob k) ∙ job-part s small (1154 + 13 * i) (omega arith))
+      elements s _ jobsStart jobSize 64
+      (λ i k. ap jobBytes (tabulate-at (λ j. jobFrom s (jobStart j)) 64 noJob 64 i noJob k)
+      ∙ job-part s small (jobStart i) (omega arith))
 
-  machines-part : machinesBytes (machinesFrom s) ≡ part s 1986 112
+  machines-part : machinesBytes (machinesFrom s) ≡ part s machinesStart (16 * machineSize)
   unfolding machinesBytes machinesFrom
   machines-part =
-      elements s _ 1986 7 16
-      (λ i k. ap machineBytes (tabulate-at (λ j. machineFrom s (1986 + 7 * j)) 16 noMachine 16 i noMachine k) ∙ machine-part s small (1986 + 7 * i) (omega arith))
+      elements s _ machinesStart machineSize 16
+      (λ i k. ap machineBytes (tabulate-at (λ j. machineFrom s (machineStart j)) 16 noMachine 16 i noMachine k)
+      ∙ machine-part s small (machineStart i) (omega arith))
 
-  messages-part : messagesBytes (messagesFrom s) ≡ part s 3379 1792
+  messages-part : messagesBytes (messagesFrom s) ≡ part s messagesStart (128 * messageSize)
   unfolding messagesBytes messagesFrom
   messages-part =
-      elements s _ 3379 14 128
-      (λ i k. ap messageBytes (tabulate-at (λ j. messageFrom s (3379 + 14 * j)) 128 noMessage 128 i noMessage k) ∙ message-part s small (3379 + 14 * i) (omega arith))
+      elements s _ messagesStart messageSize 128
+      (λ i k. ap messageBytes (tabulate-at (λ j. messageFrom s (messageStart j)) 128 noMessage 128 i noMessage k)
+      ∙ message-part s small (messageStart i) (omega arith))
 
-  told-part : toldFrom s ≡ part s 2098 256
+  told-part : toldFrom s ≡ part s toldStart 256
   unfolding toldFrom
-  told-part = listed s 2098 256 (omega arith)
+  told-part = listed s toldStart 256 (omega arith)
 
-  pools-part : poolsFrom s ≡ part s 2354 1024
+  pools-part : poolsFrom s ≡ part s poolsStart 1024
   unfolding poolsFrom
-  pools-part = listed s 2354 1024 (omega arith)
+  pools-part = listed s poolsStart 1024 (omega arith)
 
-  counts-part : getD s 0 0 ∷ getD s 1 0 ∷ [] ≡ part s 0 2
+  counts-part : getD s 0 0 ∷ getD s 1 0 ∷ [] ≡ part s 0 bondsStart
   counts-part = ap (λ (r : List ℕ). getD s 0 0 ∷ r) (next s 0 1 0 (omega arith)) ∙ start s 0 1 (omega arith)
 
-  used-part : getD s 3378 0 ∷ [] ≡ part s 3378 1
-  used-part = start s 3378 0 (omega arith)
+  used-part : getD s usedStart 0 ∷ [] ≡ part s usedStart 1
+  used-part = start s usedStart 0 (omega arith)
 
   -- the terms, which pass check 9
-  module _ (f : all (λ i. termsFormed s (2 + 18 * i)) 64 ≡ true) (ok : tableOk (tableFrom s) ≡ true) where
-    bond-is : (i : ℕ) → i < 64 → bondAt (tableFrom s) i ≡ bondFrom s (2 + 18 * i)
+  module _ (f : all (λ i. termsFormed s (bondStart i)) 64 ≡ true) (ok : tableOk (tableFrom s) ≡ true) where
+    bond-is : (i : ℕ) → i < 64 → bondAt (tableFrom s) i ≡ bondFrom s (bondStart i)
     unfolding bondAt tableFrom bondsFrom
-    bond-is i k = tabulate-at (λ j. bondFrom s (2 + 18 * j)) 64 pastBond 64 i pastBond k
+    bond-is i k = tabulate-at (λ j. bondFrom s (bondStart j)) 64 pastBond 64 i pastBond k
 
-    bonds-real : (i : ℕ) → i < 64 → RatesReal (bondFrom s (2 + 18 * i) .terms)
+    bonds-real : (i : ℕ) → i < 64 → RatesReal (bondFrom s (bondStart i) .terms)
     bonds-real i k =
         let e = tests (tableFrom s) ok .bond i k in
-        bond-real (tableFrom s .entries) i (bondFrom s (2 + 18 * i)) (rw (bond-is i k) at e)
+        bond-real (tableFrom s .entries) i (bondFrom s (bondStart i)) (rw (bond-is i k) at e)
 
-    bonds-part : bondsBytes (bondsFrom s) ≡ part s 2 1152
+    bonds-part : bondsBytes (bondsFrom s) ≡ part s bondsStart (64 * bondSize)
     unfolding bondsBytes bondsFrom
     bonds-part =
-        elements s _ 2 18 64
-        (λ i k. ap bondBytes (tabulate-at (λ j. bondFrom s (2 + 18 * j)) 64 pastBond 64 i pastBond k)
-        ∙ bond-part s small (2 + 18 * i) (omega arith) (all-at (λ j. termsFormed s (2 + 18 * j)) 64 i f k) (bonds-real i k))
+        elements s _ bondsStart bondSize 64
+        (λ i k. ap bondBytes (tabulate-at (λ j. bondFrom s (bondStart j)) 64 pastBond 64 i pastBond k)
+        ∙ bond-part s small (bondStart i) (omega arith) (all-at (λ j. termsFormed s (bondStart j)) 64 i f k) (bonds-real i k))
 
-    entries-part : entriesBytes (tableFrom s) ≡ part s 0 1986
+    entries-part : entriesBytes (tableFrom s) ≡ part s 0 entriesSize
     unfolding entriesBytes tableFrom
-    entries-part = both s 0 1154 832 (both s 0 2 1152 counts-part bonds-part) jobs-part
+    entries-part = both s 0 jobsStart (64 * jobSize) (both s 0 bondsStart (64 * bondSize) counts-part bonds-part) jobs-part
 
-    fleet-part : fleetBytes (tableFrom s) ≡ part s 1986 1392
+    fleet-part : fleetBytes (tableFrom s) ≡ part s machinesStart fleetSize
     unfolding fleetBytes tableFrom
-    fleet-part = both s 1986 368 1024 (both s 1986 112 256 machines-part told-part) pools-part
+    fleet-part = both s machinesStart (16 * machineSize + 256) 1024 (both s machinesStart (16 * machineSize) 256 machines-part told-part) pools-part
 
-    flight-part : flightBytes (tableFrom s) ≡ part s 3378 1793
+    flight-part : flightBytes (tableFrom s) ≡ part s usedStart flightSize
     unfolding flightBytes tableFrom
-    flight-part = both s 3378 1 1792 used-part messages-part
+    flight-part = both s usedStart 1 (128 * messageSize) used-part messages-part
 
     whole-part : bytesOf (tableFrom s) ≡ s
     unfolding bytesOf
-    whole-part = both s 0 3378 1793 (both s 0 1986 1392 entries-part fleet-part) flight-part ∙ take-all 5171 s (omega arith)
+    whole-part =
+        both s 0 usedStart flightSize (both s 0 entriesSize fleetSize entries-part fleet-part) flight-part ∙ take-all tableSize s (omega arith)
 
 -- the form of bytes is their length and the case of each entry
-cases : (s : List ℕ) → formed s ≡ true → all (λ i. termsFormed s (2 + 18 * i)) 64 ≡ true
+cases : (s : List ℕ) → formed s ≡ true → all (λ i. termsFormed s (bondStart i)) 64 ≡ true
 unfolding formed
-cases s e = byBool (eqb (length s) 5171) (λ h. rw h at e) (λ h. let z : _≡_ {A = Bool} false true = rw h at e in absurd (true≢false (sym z)))
+cases s e = byBool (eqb (length s) tableSize) (λ h. rw h at e) (λ h. let z : _≡_ {A = Bool} false true = rw h at e in absurd (true≢false (sym z)))
 
 -- bytes that pass the check are the bytes of their table
 pub write-again : (s : List ℕ) → AreBytes s → formed s ≡ true → tableOk (tableFrom s) ≡ true → bytesOf (tableFrom s) ≡ s

@@ -6,7 +6,7 @@ use mathlib.Core.List.{List, [], _∷_, _++_}
 use native.Mathlib.Omega.{arith}
 use borrow.Author.Tests.{eq-eqb}
 use lib.Dec.{T}
-use lib.Ieee.{binary64, fits, toBits}
+use lib.Ieee.{binary64, fits}
 use lib.Ieee.Bits.{ofBits-toBits}
 use lib.ListN.{length, getD}
 use Rattle.endian.specs.Endian.{le64}
@@ -16,8 +16,8 @@ use Rattle.pricer.specs.declared.Terms.the-variants.{Zero, Fixed}
 use Rattle.table.specs.declared.Job.{Job}
 use Rattle.table.specs.declared.Machine.{Machine}
 use Rattle.table.specs.declared.Message.{Message}
-use Rattle.kept_read.specs.Layout.{bondFrom, jobFrom, machineFrom, messageFrom, termsFormed}
-use Rattle.kept_write.specs.Bytes.{bytes64, termsBytes, casesBytes, bondBytes, jobBytes, machineBytes, messageBytes}
+use Rattle.kept_read.specs.Layout.{couponAt, yieldAt, jobPriceAt, messagePriceAt, termsFrom, bondFrom, jobFrom, machineFrom, messageFrom, termsFormed}
+use Rattle.kept_write.specs.Bytes.{bytes64, caseOf, couponBits, yieldBits, bondBytes, jobBytes, machineBytes, messageBytes}
 use Rattle.kept_write.proofs.Lengths.{length-64}
 use Rattle.round_trip.proofs.Starts.{Starts, front, behind, byte, first, number64}
 
@@ -32,8 +32,9 @@ module _ (s : List ℕ) (at : ℕ) where
   job-again v h =
       let x : List ℕ = v .state ∷ v .replica ∷ v .moving ∷ v .holder ∷ v .thief ∷ [] in
       let a : Starts s at x = front x (bytes64 (v .price)) h in
-      let b : Starts s (at + 5) (bytes64 (v .price)) = behind x (bytes64 (v .price)) h in
-      rw (first (v .state) _ a, byte x a 1 (omega arith), byte x a 2 (omega arith), byte x a 3 (omega arith), byte x a 4 (omega arith), number64 s (at + 5) (v .price) b)
+      let b : Starts s (at + jobPriceAt) (bytes64 (v .price)) = behind x (bytes64 (v .price)) h in
+      rw (first (v .state) _ a, byte x a 1 (omega arith), byte x a 2 (omega arith), byte x a 3 (omega arith), byte x a 4 (omega arith),
+        number64 s (at + jobPriceAt) (v .price) b)
 
   pub machine-again : (n : Machine) → Starts s at (machineBytes n) → machineFrom s at ≡ n
   unfolding machineBytes machineFrom
@@ -46,50 +47,48 @@ module _ (s : List ℕ) (at : ℕ) where
   message-again m h =
       let x : List ℕ = m .kind ∷ m .from ∷ m .to ∷ m .job ∷ m .replica ∷ m .thief ∷ [] in
       let a : Starts s at x = front x (bytes64 (m .price)) h in
-      let b : Starts s (at + 6) (bytes64 (m .price)) = behind x (bytes64 (m .price)) h in
-      rw (first (m .kind) _ a, byte x a 1 (omega arith), byte x a 2 (omega arith), byte x a 3 (omega arith), byte x a 4 (omega arith), byte x a 5 (omega arith), number64 s (at + 6) (m .price) b)
+      let b : Starts s (at + messagePriceAt) (bytes64 (m .price)) = behind x (bytes64 (m .price)) h in
+      rw (first (m .kind) _ a, byte x a 1 (omega arith), byte x a 2 (omega arith), byte x a 3 (omega arith), byte x a 4 (omega arith),
+        byte x a 5 (omega arith), number64 s (at + messagePriceAt) (m .price) b)
 
-  -- the four parts of an entry's terms
-  record Parts (variant periods coupon ytm : ℕ) : Type 0 where
-    variant-is : getD s at 0 ≡ variant
-    periods-is : getD s (at + 1) 0 ≡ periods
-    coupon-is : le64 s (at + 2) ≡ coupon
-    ytm-is : le64 s (at + 10) ≡ ytm
+  -- the parts of an entry's terms
+  record Parts (b : Bond) : Type 0 where
+    case-is : getD s at 0 ≡ caseOf (b .terms)
+    periods-is : getD s (at + 1) 0 ≡ b .periods
+    coupon-is : le64 s (at + couponAt) ≡ couponBits (b .terms)
+    yield-is : le64 s (at + yieldAt) ≡ yieldBits (b .terms)
 
-  parts : (v n c y : ℕ) → Starts s at (termsBytes v n c y) → Parts v n c y
-  unfolding termsBytes
-  parts v n c y h =
-      let x : List ℕ = v ∷ n ∷ [] in
+  parts : (b : Bond) → Starts s at (bondBytes b) → Parts b
+  unfolding bondBytes
+  parts b h =
+      let x : List ℕ = caseOf (b .terms) ∷ b .periods ∷ [] in
+      let c : ℕ = couponBits (b .terms) in
+      let y : ℕ = yieldBits (b .terms) in
       let xs : List ℕ = x ++ bytes64 c in
       let f : Starts s at xs = front xs (bytes64 y) h in
-      let e : at + length xs ≡ at + 10 = omega (arith, length-64 c) in
+      let e : at + length xs ≡ at + yieldAt = omega (arith, length-64 c) in
       record {
-        variant-is = first v _ (front x (bytes64 c) f);
+        case-is = first _ _ (front x (bytes64 c) f);
         periods-is = byte x (front x (bytes64 c) f) 1 (omega arith);
-        coupon-is = number64 s (at + 2) c (behind x (bytes64 c) f);
-        ytm-is = ap (le64 s) (sym e) ∙ number64 s (at + length xs) y (behind xs (bytes64 y) h);
+        coupon-is = number64 s (at + couponAt) c (behind x (bytes64 c) f);
+        yield-is = ap (le64 s) (sym e) ∙ number64 s (at + length xs) y (behind xs (bytes64 y) h);
       }
 
   -- the terms by their case
-  module _ (n : ℕ) where
-    cases-again : (t : Terms) → RatesFit t → Starts s at (casesBytes n t) → bondFrom s at ≡ record { periods = n; terms = t }
-    unfolding bondFrom
-    cases-again (Zero y) f h =
-        let p = parts 0 n 0 (toBits binary64 y) h in
-        rw (eq-eqb _ _ (p .variant-is), p .periods-is, p .ytm-is, ofBits-toBits binary64 y f)
-    cases-again (Fixed c y) f h =
-        let p = parts 1 n (toBits binary64 c) (toBits binary64 y) h in
-        rw (p .variant-is, p .periods-is, p .coupon-is, p .ytm-is, ofBits-toBits binary64 c (f .0), ofBits-toBits binary64 y (f .1))
+  terms-again : (t : Terms) → RatesFit t → getD s at 0 ≡ caseOf t → le64 s (at + couponAt) ≡ couponBits t → le64 s (at + yieldAt) ≡ yieldBits t
+      → termsFrom s at ≡ t
+  unfolding termsFrom
+  terms-again (Zero y) f v c e = rw (eq-eqb _ _ v, e, ofBits-toBits binary64 y f)
+  terms-again (Fixed c y) f v d e = rw (v, d, e, ofBits-toBits binary64 c (f .0), ofBits-toBits binary64 y (f .1))
 
-    cases-formed : (t : Terms) → Starts s at (casesBytes n t) → termsFormed s at ≡ true
-    unfolding termsFormed
-    cases-formed (Zero y) h = let p = parts 0 n 0 (toBits binary64 y) h in rw (p .variant-is, p .coupon-is)
-    cases-formed (Fixed c y) h = let p = parts 1 n (toBits binary64 c) (toBits binary64 y) h in rw (p .variant-is)
+  terms-formed : (t : Terms) → getD s at 0 ≡ caseOf t → le64 s (at + couponAt) ≡ couponBits t → termsFormed s at ≡ true
+  unfolding termsFormed
+  terms-formed (Zero y) v c = rw (v, c)
+  terms-formed (Fixed c y) v d = rw v
 
   pub bond-again : (b : Bond) → RatesFit (b .terms) → Starts s at (bondBytes b) → bondFrom s at ≡ b
-  unfolding bondBytes
-  bond-again b f h = cases-again (b .periods) (b .terms) f h
+  unfolding bondFrom
+  bond-again b f h = let p = parts b h in rw (p .periods-is, terms-again (b .terms) f (p .case-is) (p .coupon-is) (p .yield-is))
 
   pub bond-formed : (b : Bond) → Starts s at (bondBytes b) → termsFormed s at ≡ true
-  unfolding bondBytes
-  bond-formed b h = cases-formed (b .periods) (b .terms) h
+  bond-formed b h = let p = parts b h in terms-formed (b .terms) (p .case-is) (p .coupon-is)

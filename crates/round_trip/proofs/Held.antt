@@ -1,6 +1,6 @@
 -- Which tables are held: that of any bytes, the fresh table of a book, and after an event what was held before it. Assumes nothing.
-use Prim.Native.Nat.{ℕ, _+_, _*_, _<_}
-use mathlib.Core.Path.{_≡_, refl, sym, ap, _∙_, subst}
+use Prim.Native.Nat.{ℕ, _+_, _<_}
+use mathlib.Core.Path.{_≡_, sym, ap, _∙_, subst}
 use mathlib.Core.Bool.{Bool, true, false, cond}
 use mathlib.Core.List.{List}
 use native.Mathlib.Omega.{arith}
@@ -15,50 +15,52 @@ use Rattle.endian.specs.Endian.{le64}
 use Rattle.pricer.specs.declared.Bond.{Bond}
 use Rattle.pricer.specs.declared.Terms.the-variants.{Zero, Fixed}
 use Rattle.pricer.specs.Range.{inRange}
-use Rattle.term.specs.Term.{of, checked, termFrom, termOf}
+use Rattle.term.specs.Term.{of, checked, termFrom, bareBond, termOf}
 use Rattle.term.specs.declared.Reading.{Reading}
 use Rattle.term.specs.declared.Reading.the-variants.{Faulty, Valid}
 use Rattle.book.specs.Book.{termAt}
-use Rattle.book.specs.Parts.{entryCount, noBond, bondIn, bondAt, bondOf}
+use Rattle.pricer.specs.Bonds.{noBond, withTerms}
+use Rattle.book.specs.Parts.{entryCount, bondIn, bondAt, bondOf}
 use Rattle.table.specs.declared.Table.{Table}
 use Rattle.table.specs.Views.{noJob, noMachine, noMessage, pastBond}
 use Rattle.table.specs.Views as views
-use Rattle.table.proofs.Long.{Long}
+use Rattle.table.proofs.Long.{Long, sized}
 use Rattle.validity.specs.Validity.{tableOk}
 use Rattle.opening.specs.Opening.{blank, bondsOf, freshOf}
 use Rattle.opening.proofs.Counts.{entries-most}
 use Rattle.opening.proofs.Shown.{sized-fresh, bond-fresh}
 use Rattle.dispatcher.specs.Step.{stepOf}
 use Rattle.dispatcher.proofs.Kept.{step-sized}
-use Rattle.run.proofs.Events.{passed-sized}
+use Rattle.dispatcher.proofs.Ready.{ready}
 use Rattle.dispatcher.proofs.Fixed.{step-bonds}
-use Rattle.kept_read.specs.Layout.{bondFrom, jobFrom, machineFrom, messageFrom, bondsFrom, jobsFrom, machinesFrom, toldFrom, poolsFrom, messagesFrom, tableFrom}
+use Rattle.kept_read.specs.Layout.{couponAt, yieldAt, bondStart, termsFrom, bondFrom, bondsFrom, jobsFrom, machinesFrom, toldFrom, poolsFrom}
+use Rattle.kept_read.specs.Layout.{messagesFrom, tableFrom}
 use Rattle.round_trip.proofs.Elements.{RatesFit}
 use Rattle.round_trip.proofs.Table.{Held}
 
 -- ---- the table of any bytes
 
 rates-read : (s : List ℕ) (at : ℕ) → RatesFit (bondFrom s at .terms)
-unfolding bondFrom
+unfolding bondFrom termsFrom
 rates-read s at =
     byBool (eqb (getD s at 0) 0)
-    (λ e. rw e (ofBits-fits binary64 (le64 s (at + 10))))
-    (λ e. rw e (ofBits-fits binary64 (le64 s (at + 2)), ofBits-fits binary64 (le64 s (at + 10))))
+    (λ e. rw e (ofBits-fits binary64 (le64 s (at + yieldAt))))
+    (λ e. rw e (ofBits-fits binary64 (le64 s (at + couponAt)), ofBits-fits binary64 (le64 s (at + yieldAt))))
 
 long-from : (s : List ℕ) → Long (tableFrom s)
 unfolding tableFrom bondsFrom jobsFrom machinesFrom toldFrom poolsFrom messagesFrom
 long-from s = record {
-  bonds = length-tabulate (λ i. bondFrom s (2 + 18 * i)) 64 pastBond 64;
-  jobs = length-tabulate (λ i. jobFrom s (1154 + 13 * i)) 64 noJob 64;
-  nodes = length-tabulate (λ i. machineFrom s (1986 + 7 * i)) 16 noMachine 16;
-  told = length-tabulate (λ i. getD s (2098 + i) 0) 256 0 256;
-  pools = length-tabulate (λ i. getD s (2354 + i) 0) 1024 0 1024;
-  messages = length-tabulate (λ i. messageFrom s (3379 + 14 * i)) 128 noMessage 128;
+  bonds = length-tabulate _ 64 pastBond 64;
+  jobs = length-tabulate _ 64 noJob 64;
+  nodes = length-tabulate _ 16 noMachine 16;
+  told = length-tabulate _ 256 0 256;
+  pools = length-tabulate _ 1024 0 1024;
+  messages = length-tabulate _ 128 noMessage 128;
 }
 
 rates-from : (s : List ℕ) (j : ℕ) → j < 64 → RatesFit (getD (tableFrom s .bonds) j pastBond .terms)
 unfolding tableFrom bondsFrom
-rates-from s j k = rw (tabulate-at (λ i. bondFrom s (2 + 18 * i)) 64 pastBond 64 j pastBond k) (rates-read s (2 + 18 * j))
+rates-from s j k = rw (tabulate-at (λ i. bondFrom s (bondStart i)) 64 pastBond 64 j pastBond k) (rates-read s (bondStart j))
 
 pub held-from : (s : List ℕ) → Held (tableFrom s)
 held-from s = record { long = long-from s; rates = rates-from s }
@@ -80,16 +82,18 @@ rates-checked : (b : Bond) → RatesFit (b .terms) → Fit (checked b)
 unfolding checked
 rates-checked b f = either (inRange b) (Valid b) Faulty f rates-none
 
-rates-term : (k n c y : ℕ) → Fit (termFrom k n c y)
+rates-term : (k : ℕ) (b : Bond) (c y : ℕ) → Fit (termFrom k b c y)
 unfolding termFrom
-rates-term k n c y =
+rates-term k b c y =
     either (eqb k 1) _ _
-    (either (eqb c 0) _ Faulty (rates-checked (record { periods = n; terms = Zero (of y) }) (ofBits-fits binary64 y)) rates-none)
-    (either (eqb k 2) _ Faulty (rates-checked (record { periods = n; terms = Fixed (of c) (of y) }) (ofBits-fits binary64 c, ofBits-fits binary64 y)) rates-none)
+    (either (eqb c 0) _ Faulty (rates-checked (withTerms b (Zero (of y))) (ofBits-fits binary64 y)) rates-none)
+    (either (eqb k 2) _ Faulty (rates-checked (withTerms b (Fixed (of c) (of y))) (ofBits-fits binary64 c, ofBits-fits binary64 y)) rates-none)
 
 rates-of : (s : List ℕ) → Fit (termOf s)
 unfolding termOf
-rates-of s = either (eqb (length s) 19) _ Faulty (either (eqb (getD s 2 0) 0) _ Faulty (rates-term (getD s 0 0) (getD s 1 0) (le64 s 3) (le64 s 11)) rates-none) rates-none
+rates-of s =
+    either (eqb (length s) 19) _ Faulty
+    (either (eqb (getD s 2 0) 0) _ Faulty (rates-term (getD s 0 0) (bareBond s) (le64 s 3) (le64 s 11)) rates-none) rates-none
 
 rates-book : (s : List ℕ) (i : ℕ) → RatesFit (bondOf s i .terms)
 unfolding bondOf bondAt
@@ -121,7 +125,7 @@ held-fresh s =
 module _ (t : Table) (e : List ℕ) (h : Held t) where
   passed : tableOk t ≡ true → Held (stepOf t e .table)
   passed k =
-      let z = step-sized t e (passed-sized t (h .long) k) in
+      let z = step-sized t e (sized t (h .long) (ready t (h .long) k .flight)) in
       record {
         long = record { bonds = ap length (step-bonds t e) ∙ h .long .bonds; jobs = z .jobs; nodes = z .nodes; told = z .told; pools = z .pools; messages = z .messages };
         rates = λ j l. rw (step-bonds t e) (h .rates j l);

@@ -14,7 +14,7 @@ use Rattle.opening.specs.Opening.{freshOf, openOf}
 use Rattle.opening.proofs.Shown.{opened-table}
 use Rattle.dispatcher.specs.Step.{stepOf, runOf}
 use Rattle.dispatcher.proofs.Events.{step-refused}
-use Rattle.kept_read.specs.Layout.{formed, tableFrom}
+use Rattle.kept_read.specs.Layout.{tableSize, formed, tableFrom}
 use Rattle.kept_write.specs.Bytes.{bytesOf}
 use Rattle.kept.specs.Kept.{stepNumber, stepBytes, openNumber, openBytes}
 use Rattle.round_trip.specs.Again.{keptAfter, Stands, SameRun}
@@ -60,10 +60,10 @@ pub any-run : (s : List ℕ) → formed s ≡ true → SameRun s (tableFrom s)
 any-run s f = same-run s (tableFrom s) (record { form = f; table = refl }) (held-from s)
 
 -- a book opened into a buffer: the run of demand 3, which is from `openOf book .table`
-module _ (book s : List ℕ) (v : bookVerdict book ≡ 0) (l : length s ≡ 5171) where
+module _ (book s : List ℕ) (v : bookVerdict book ≡ 0) (l : length s ≡ tableSize) where
   opens : openNumber book s ≡ 0
   unfolding openNumber
-  opens = rw (eq-eqb (bookVerdict book) 0 v, eq-eqb (length s) 5171 l)
+  opens = rw (eq-eqb (bookVerdict book) 0 v, eq-eqb (length s) tableSize l)
 
   opened-bytes : openBytes book s ≡ bytesOf (freshOf book)
   unfolding openBytes

@@ -15,17 +15,13 @@ use Rattle.lists.specs.Scan.{tabulate}
 use Rattle.lists.proofs.Cases.{byBool}
 use Rattle.endian.specs.Endian.{le16, le32, le64}
 use Rattle.text.specs.Text.{joined}
-use Rattle.pricer.specs.declared.Terms.{Terms}
-use Rattle.pricer.specs.declared.Terms.the-variants.{Zero, Fixed}
-use Rattle.kept_read.specs.Layout.{numberAt, bondFrom, jobFrom, machineFrom, messageFrom, termsFormed}
-use Rattle.kept_write.specs.Bytes.{bytes16, bytes32, bytes64, termsBytes, bondBytes, jobBytes, machineBytes, messageBytes}
+use Rattle.pricer.proofs.Real.{RatesReal}
+use Rattle.kept_read.specs.Layout.{couponAt, yieldAt, bondSize, jobSize, machineSize, messageSize, numberAt, termsFrom, bondFrom, jobFrom}
+use Rattle.kept_read.specs.Layout.{machineFrom}
+use Rattle.kept_read.specs.Layout.{messageFrom, termsFormed}
+use Rattle.kept_write.specs.Bytes.{bytes16, bytes32, bytes64, caseOf, couponBits, yieldBits, bondBytes, jobBytes, machineBytes, messageBytes}
 use Rattle.round_trip.specs.Again.{AreBytes}
 use Rattle.round_trip.proofs.Starts.{list-is}
-
--- no rate is a NaN
-abbrev pub RatesReal : Terms → Type 0
-RatesReal (Zero y) = T (not (isNan y))
-RatesReal (Fixed c y) = T (not (isNan c)) × T (not (isNan y))
 
 -- n bytes of s from index `at` on
 abbrev pub part : List ℕ → ℕ → ℕ → List ℕ
@@ -114,55 +110,48 @@ module _ (s : List ℕ) (small : AreBytes s) where
 
   -- ---- one element
 
-  pub job-part : (at : ℕ) → at + 13 ≤ length s → jobBytes (jobFrom s at) ≡ part s at 13
+  pub job-part : (at : ℕ) → at + jobSize ≤ length s → jobBytes (jobFrom s at) ≡ part s at jobSize
   unfolding jobBytes jobFrom
   job-part at h = rw (part64 (at + 5) (omega arith), next s at 4 8 (omega arith), next s at 3 9 (omega arith), next s at 2 10 (omega arith), next s at 1 11 (omega arith)) (start s at 12 (omega arith))
 
-  pub machine-part : (at : ℕ) → at + 7 ≤ length s → machineBytes (machineFrom s at) ≡ part s at 7
+  pub machine-part : (at : ℕ) → at + machineSize ≤ length s → machineBytes (machineFrom s at) ≡ part s at machineSize
   unfolding machineBytes machineFrom
   machine-part at h = rw (next s at 6 0 (omega arith), next s at 5 1 (omega arith), next s at 4 2 (omega arith), next s at 3 3 (omega arith), next s at 2 4 (omega arith), next s at 1 5 (omega arith)) (start s at 6 (omega arith))
 
-  pub message-part : (at : ℕ) → at + 14 ≤ length s → messageBytes (messageFrom s at) ≡ part s at 14
+  pub message-part : (at : ℕ) → at + messageSize ≤ length s → messageBytes (messageFrom s at) ≡ part s at messageSize
   unfolding messageBytes messageFrom
   message-part at h = rw (part64 (at + 6) (omega arith), next s at 5 8 (omega arith), next s at 4 9 (omega arith), next s at 3 10 (omega arith), next s at 2 11 (omega arith), next s at 1 12 (omega arith)) (start s at 13 (omega arith))
 
-  terms-part : (at : ℕ) → at + 18 ≤ length s → termsBytes (getD s at 0) (getD s (at + 1) 0) (le64 s (at + 2)) (le64 s (at + 10)) ≡ part s at 18
-  unfolding termsBytes
+  terms-part : (at : ℕ) → at + bondSize ≤ length s
+      → (getD s at 0 ∷ getD s (at + 1) 0 ∷ []) ++ bytes64 (le64 s (at + couponAt)) ++ bytes64 (le64 s (at + yieldAt)) ≡ part s at bondSize
   terms-part at h =
-      let e : at + 10 ≡ at + 2 + 8 = omega arith in
-      let rates : part s (at + 2) 8 ++ part s (at + 10) 8 ≡ part s (at + 2) 16 = ap (λ (k : ℕ). part s (at + 2) 8 ++ part s k 8) e ∙ join s (at + 2) 8 8 in
-      rw (part64 (at + 2) (omega arith), part64 (at + 10) (omega arith), rates, next s at 1 16 (omega arith)) (start s at 17 (omega arith))
+      let e : at + yieldAt ≡ at + couponAt + 8 = omega arith in
+      let rates : part s (at + couponAt) 8 ++ part s (at + yieldAt) 8 ≡ part s (at + couponAt) 16 =
+          ap (λ (k : ℕ). part s (at + couponAt) 8 ++ part s k 8) e ∙ join s (at + couponAt) 8 8 in
+      rw (part64 (at + couponAt) (omega arith), part64 (at + yieldAt) (omega arith), rates, next s at 1 16 (omega arith))
+      (start s at 17 (omega arith))
 
   -- a rate that is no NaN is written as the bits that it was read from
   rate-again : (at : ℕ) → T (not (isNan (numberAt s at))) → toBits binary64 (numberAt s at) ≡ le64 s at
   rate-again at k = toBits-ofBits binary64 (le64 s at) (small64 at) k
 
   -- the terms by their case
-  module _ (at : ℕ) (h : at + 18 ≤ length s) (f : termsFormed s at ≡ true) where
-    zero-part : getD s at 0 ≡ 0 → T (not (isNan (numberAt s (at + 10)))) → termsBytes 0 (getD s (at + 1) 0) 0 (toBits binary64 (numberAt s (at + 10))) ≡ part s at 18
-    unfolding termsFormed
-    zero-part v k =
-        let c : eqb (le64 s (at + 2)) 0 || false ≡ true = rw v at f in
-        let z : le64 s (at + 2) ≡ 0 = eqb-true (le64 s (at + 2)) 0 (or-none (eqb (le64 s (at + 2)) 0) c) in
-        rw (rate-again (at + 10) k)
-        (ap (λ (x : ℕ). termsBytes x (getD s (at + 1) 0) 0 (le64 s (at + 10))) (sym v)
-        ∙ ap (λ (x : ℕ). termsBytes (getD s at 0) (getD s (at + 1) 0) x (le64 s (at + 10))) (sym z)
-        ∙ terms-part at h)
-
-    fixed-part : eqb (getD s at 0) 0 ≡ false → T (not (isNan (numberAt s (at + 2)))) → T (not (isNan (numberAt s (at + 10))))
-        → termsBytes 1 (getD s (at + 1) 0) (toBits binary64 (numberAt s (at + 2))) (toBits binary64 (numberAt s (at + 10))) ≡ part s at 18
-    unfolding termsFormed
-    fixed-part v j k =
-        let c : eqb (getD s at 0) 1 ≡ true = rw v at f in
-        let e : getD s at 0 ≡ 1 = eqb-true (getD s at 0) 1 c in
-        rw (rate-again (at + 2) j, rate-again (at + 10) k)
-        (ap (λ (x : ℕ). termsBytes x (getD s (at + 1) 0) (le64 s (at + 2)) (le64 s (at + 10))) (sym e) ∙ terms-part at h)
-
-    pub bond-part : RatesReal (bondFrom s at .terms) → bondBytes (bondFrom s at) ≡ part s at 18
-    unfolding bondBytes bondFrom
-    bond-part r =
+  module _ (at : ℕ) (h : at + bondSize ≤ length s) (f : termsFormed s at ≡ true) where
+    terms-same : RatesReal (termsFrom s at) → (caseOf (termsFrom s at) ≡ getD s at 0) × (couponBits (termsFrom s at) ≡ le64 s (at + couponAt))
+        × (yieldBits (termsFrom s at) ≡ le64 s (at + yieldAt))
+    unfolding termsFrom termsFormed
+    terms-same r =
         byBool (eqb (getD s at 0) 0)
-        (λ e. let k : T (not (isNan (numberAt s (at + 10)))) = rw e at r in rw e (zero-part (eqb-true (getD s at 0) 0 e) k))
         (λ e.
-        let k : T (not (isNan (numberAt s (at + 2)))) × T (not (isNan (numberAt s (at + 10)))) = rw e at r in
-        rw e (fixed-part e (k .0) (k .1)))
+        let k : T (not (isNan (numberAt s (at + yieldAt)))) = rw e at r in
+        let c : eqb (le64 s (at + couponAt)) 0 || false ≡ true = rw (eqb-true (getD s at 0) 0 e) at f in
+        let z : le64 s (at + couponAt) ≡ 0 = eqb-true (le64 s (at + couponAt)) 0 (or-none (eqb (le64 s (at + couponAt)) 0) c) in
+        rw e (sym (eqb-true (getD s at 0) 0 e), sym z, rate-again (at + yieldAt) k))
+        (λ e.
+        let k : T (not (isNan (numberAt s (at + couponAt)))) × T (not (isNan (numberAt s (at + yieldAt)))) = rw e at r in
+        let c : eqb (getD s at 0) 1 ≡ true = rw e at f in
+        rw e (sym (eqb-true (getD s at 0) 1 c), rate-again (at + couponAt) (k .0), rate-again (at + yieldAt) (k .1)))
+
+    pub bond-part : RatesReal (bondFrom s at .terms) → bondBytes (bondFrom s at) ≡ part s at bondSize
+    unfolding bondBytes bondFrom
+    bond-part r = let q = terms-same r in rw (q .0, q .1, q .2) (terms-part at h)

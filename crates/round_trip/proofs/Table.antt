@@ -1,5 +1,5 @@
 -- A table that is written and read again is the same table. Assumes nothing.
-use Prim.Native.Nat.{ℕ, _+_, _*_, _<_}
+use Prim.Native.Nat.{ℕ, _<_}
 use mathlib.Core.Path.{_≡_, sym, subst}
 use mathlib.Core.Bool.{true}
 use mathlib.Core.List.{List, [], _∷_, _++_, append-nil}
@@ -10,9 +10,13 @@ use Rattle.lists.proofs.Keeps.{all-intro}
 use Rattle.table.specs.declared.Table.{Table}
 use Rattle.table.specs.Views.{noJob, noMachine, noMessage, pastBond}
 use Rattle.table.proofs.Long.{Long}
-use Rattle.kept_read.specs.Layout.{bondsFrom, jobsFrom, machinesFrom, toldFrom, poolsFrom, messagesFrom, tableFrom, formed}
-use Rattle.kept_write.specs.Bytes.{bondBytes, jobBytes, machineBytes, messageBytes, bondsBytes, jobsBytes, machinesBytes, messagesBytes, entriesBytes, fleetBytes, flightBytes, bytesOf}
-use Rattle.kept_write.proofs.Lengths.{length-bond, length-job, length-machine, length-message, length-bonds, length-machines, length-entries, length-fleet, length-bytes}
+use Rattle.kept_read.specs.Layout.{bondsStart, jobsStart, machinesStart, toldStart, poolsStart, usedStart, messagesStart, bondStart, jobStart}
+use Rattle.kept_read.specs.Layout.{machineStart, messageStart, bondsFrom, jobsFrom, machinesFrom, toldFrom, poolsFrom, messagesFrom, tableFrom}
+use Rattle.kept_read.specs.Layout.{formed}
+use Rattle.kept_write.specs.Bytes.{bondBytes, jobBytes, machineBytes, messageBytes, bondsBytes, jobsBytes, machinesBytes, messagesBytes, entriesBytes}
+use Rattle.kept_write.specs.Bytes.{fleetBytes, flightBytes, bytesOf}
+use Rattle.kept_write.proofs.Lengths.{length-bond, length-job, length-machine, length-message, length-bonds, length-machines, length-entries}
+use Rattle.kept_write.proofs.Lengths.{length-fleet, length-bytes}
 use Rattle.round_trip.specs.Again.{Stands}
 use Rattle.round_trip.proofs.Starts.{Starts, front, behind, byte, first, element, list-is}
 use Rattle.round_trip.proofs.Elements.{RatesFit, bond-again, bond-formed, job-again, machine-again, message-again}
@@ -35,11 +39,11 @@ module _ (t : Table) where
   unfolding bytesOf
   entries-start = front (entriesBytes t) (fleetBytes t) (front (entriesBytes t ++ fleetBytes t) (flightBytes t) whole)
 
-  fleet-start : Starts (bytesOf t) 1986 (fleetBytes t)
+  fleet-start : Starts (bytesOf t) machinesStart (fleetBytes t)
   unfolding bytesOf
   fleet-start = moved (behind (entriesBytes t) (fleetBytes t) (front (entriesBytes t ++ fleetBytes t) (flightBytes t) whole)) (omega (arith, length-entries t))
 
-  flight-start : Long t → Starts (bytesOf t) 3378 (flightBytes t)
+  flight-start : Long t → Starts (bytesOf t) usedStart (flightBytes t)
   unfolding bytesOf
   flight-start l =
       moved (behind (entriesBytes t ++ fleetBytes t) (flightBytes t) whole)
@@ -49,61 +53,61 @@ module _ (t : Table) where
   unfolding entriesBytes
   counts-start = front (t .machines ∷ t .entries ∷ []) _ (front ((t .machines ∷ t .entries ∷ []) ++ bondsBytes (t .bonds)) (jobsBytes (t .jobs)) entries-start)
 
-  bonds-start : Starts (bytesOf t) 2 (bondsBytes (t .bonds))
+  bonds-start : Starts (bytesOf t) bondsStart (bondsBytes (t .bonds))
   unfolding entriesBytes
   bonds-start = behind (t .machines ∷ t .entries ∷ []) (bondsBytes (t .bonds)) (front ((t .machines ∷ t .entries ∷ []) ++ bondsBytes (t .bonds)) (jobsBytes (t .jobs)) entries-start)
 
-  jobs-start : Starts (bytesOf t) 1154 (jobsBytes (t .jobs))
+  jobs-start : Starts (bytesOf t) jobsStart (jobsBytes (t .jobs))
   unfolding entriesBytes
   jobs-start = moved (behind ((t .machines ∷ t .entries ∷ []) ++ bondsBytes (t .bonds)) (jobsBytes (t .jobs)) entries-start) (omega (arith, length-bonds (t .bonds)))
 
-  machines-start : Starts (bytesOf t) 1986 (machinesBytes (t .nodes))
+  machines-start : Starts (bytesOf t) machinesStart (machinesBytes (t .nodes))
   unfolding fleetBytes
   machines-start = front (machinesBytes (t .nodes)) (t .told) (front (machinesBytes (t .nodes) ++ t .told) (t .pools) fleet-start)
 
-  told-start : Starts (bytesOf t) 2098 (t .told)
+  told-start : Starts (bytesOf t) toldStart (t .told)
   unfolding fleetBytes
   told-start = moved (behind (machinesBytes (t .nodes)) (t .told) (front (machinesBytes (t .nodes) ++ t .told) (t .pools) fleet-start)) (omega (arith, length-machines (t .nodes)))
 
-  pools-start : Long t → Starts (bytesOf t) 2354 (t .pools)
+  pools-start : Long t → Starts (bytesOf t) poolsStart (t .pools)
   unfolding fleetBytes
   pools-start l =
       moved (behind (machinesBytes (t .nodes) ++ t .told) (t .pools) fleet-start)
       (omega (arith, length-append (machinesBytes (t .nodes)) (t .told), length-machines (t .nodes)))
 
-  used-start : Long t → Starts (bytesOf t) 3378 (t .«in_flight» ∷ [])
+  used-start : Long t → Starts (bytesOf t) usedStart (t .«in_flight» ∷ [])
   unfolding flightBytes
   used-start l = front (t .«in_flight» ∷ []) (messagesBytes (t .messages)) (flight-start l)
 
-  messages-start : Long t → Starts (bytesOf t) 3379 (messagesBytes (t .messages))
+  messages-start : Long t → Starts (bytesOf t) messagesStart (messagesBytes (t .messages))
   unfolding flightBytes
   messages-start l = behind (t .«in_flight» ∷ []) (messagesBytes (t .messages)) (flight-start l)
 
   -- ---- each array is read again
 
-  bond-start : (i : ℕ) → i < 64 → Starts (bytesOf t) (2 + 18 * i) (bondBytes (getD (t .bonds) i pastBond))
+  bond-start : (i : ℕ) → i < 64 → Starts (bytesOf t) (bondStart i) (bondBytes (getD (t .bonds) i pastBond))
   unfolding bondsBytes
-  bond-start i k = element (λ j. bondBytes (getD (t .bonds) j pastBond)) 18 64 (λ j. length-bond (getD (t .bonds) j pastBond)) bonds-start i k
+  bond-start i k = element (λ j. bondBytes (getD (t .bonds) j pastBond)) _ 64 (λ j. length-bond (getD (t .bonds) j pastBond)) bonds-start i k
 
   bonds-again : Held t → bondsFrom (bytesOf t) ≡ t .bonds
   unfolding bondsFrom
   bonds-again h =
       list-is _ (t .bonds) pastBond 64 (h .long .bonds)
-      (λ i k. bond-again (bytesOf t) (2 + 18 * i) (getD (t .bonds) i pastBond) (h .rates i k) (bond-start i k))
+      (λ i k. bond-again (bytesOf t) (bondStart i) (getD (t .bonds) i pastBond) (h .rates i k) (bond-start i k))
 
   jobs-again : Long t → jobsFrom (bytesOf t) ≡ t .jobs
   unfolding jobsFrom jobsBytes
   jobs-again l =
       list-is _ (t .jobs) noJob 64 (l .jobs)
-      (λ i k. job-again (bytesOf t) (1154 + 13 * i) (getD (t .jobs) i noJob)
-      (element (λ j. jobBytes (getD (t .jobs) j noJob)) 13 64 (λ j. length-job (getD (t .jobs) j noJob)) jobs-start i k))
+      (λ i k. job-again (bytesOf t) (jobStart i) (getD (t .jobs) i noJob)
+      (element (λ j. jobBytes (getD (t .jobs) j noJob)) _ 64 (λ j. length-job (getD (t .jobs) j noJob)) jobs-start i k))
 
   machines-again : Long t → machinesFrom (bytesOf t) ≡ t .nodes
   unfolding machinesFrom machinesBytes
   machines-again l =
       list-is _ (t .nodes) noMachine 16 (l .nodes)
-      (λ i k. machine-again (bytesOf t) (1986 + 7 * i) (getD (t .nodes) i noMachine)
-      (element (λ j. machineBytes (getD (t .nodes) j noMachine)) 7 16 (λ j. length-machine (getD (t .nodes) j noMachine)) machines-start i k))
+      (λ i k. machine-again (bytesOf t) (machineStart i) (getD (t .nodes) i noMachine)
+      (element (λ j. machineBytes (getD (t .nodes) j noMachine)) _ 16 (λ j. length-machine (getD (t .nodes) j noMachine)) machines-start i k))
 
   told-again : Long t → toldFrom (bytesOf t) ≡ t .told
   unfolding toldFrom
@@ -117,8 +121,9 @@ module _ (t : Table) where
   unfolding messagesFrom messagesBytes
   messages-again l =
       list-is _ (t .messages) noMessage 128 (l .messages)
-      (λ i k. message-again (bytesOf t) (3379 + 14 * i) (getD (t .messages) i noMessage)
-      (element (λ j. messageBytes (getD (t .messages) j noMessage)) 14 128 (λ j. length-message (getD (t .messages) j noMessage)) (messages-start l) i k))
+      (λ i k. message-again (bytesOf t) (messageStart i) (getD (t .messages) i noMessage)
+      (element (λ j. messageBytes (getD (t .messages) j noMessage)) _ 128 (λ j. length-message (getD (t .messages) j noMessage))
+      (messages-start l) i k))
 
   -- ---- the whole
 
@@ -126,7 +131,7 @@ module _ (t : Table) where
   unfolding formed
   bytes-formed l =
       rw (eq-eqb _ _ (length-bytes t l))
-      (all-intro _ 64 (λ i k. bond-formed (bytesOf t) (2 + 18 * i) (getD (t .bonds) i pastBond) (bond-start i k)))
+      (all-intro _ 64 (λ i k. bond-formed (bytesOf t) (bondStart i) (getD (t .bonds) i pastBond) (bond-start i k)))
 
   table-again : Held t → tableFrom (bytesOf t) ≡ t
   unfolding tableFrom

@@ -26,7 +26,7 @@ use Prim.Native.Nat.{ℕ, _+_, _*_, max}
 use lib.ListN.{getD, set, take}
 use lib.Ieee.{nan}
 use Rattle.pricer.specs.declared.Bond.{Bond}
-use Rattle.pricer.specs.declared.Terms.the-variants.{Zero}
+use Rattle.pricer.specs.Bonds.{emptyWith}
 use Rattle.table.specs.declared.Job.{Job}
 use Rattle.table.specs.declared.Machine.{Machine}
 use Rattle.table.specs.declared.Message.{Message}
@@ -45,7 +45,7 @@ noMessage = record { kind = 0; from = 0; to = 0; job = 0; replica = 0; thief = 0
 
 -- what a read past the end of an array of bonds stands for in a proof of code; no read of the table's 64 is past it
 abbrev pub pastBond : Bond
-pastBond = record { periods = 0; terms = Zero nan }
+pastBond = emptyWith nan
 
 -- ---- the views
 

@@ -7,10 +7,10 @@ use lib.Ieee.{Float, nan, inf, fin, binary64, le, isNan, nanBits}
 use lib.Ieee.Bits.{nanBits-is}
 use Rattle.lists.proofs.Cases.{and-false, cond-same}
 use Rattle.pricer.specs.Range.{couponInRange, yieldInRange, periodsInRange, termsInRange, inRange}
+use Rattle.pricer.specs.Bonds.{withTerms}
 use Rattle.pricer.specs.declared.Bond.{Bond}
-use Rattle.pricer.specs.declared.Terms.{Terms}
 use Rattle.pricer.specs.declared.Terms.the-variants.{Zero, Fixed}
-use Rattle.term.specs.declared.Reading.the-variants.{Faulty, Valid}
+use Rattle.term.specs.declared.Reading.the-variants.{Faulty}
 use Rattle.term.specs.Term.{of, checked, termFrom}
 
 is-nan : (x : Float) → isNan x ≡ true → x ≡ nan
@@ -32,29 +32,29 @@ yield-nan : yieldInRange nan ≡ false
 unfolding le
 yield-nan = refl
 
-outside : (n : ℕ) (t : Terms) → termsInRange t ≡ false → checked (record { periods = n; terms = t }) ≡ Faulty
+outside : (b : Bond) → termsInRange (b .terms) ≡ false → checked b ≡ Faulty
 unfolding checked inRange
-outside n t e = simp (e, and-false (periodsInRange n))
+outside b e = simp (e, and-false (periodsInRange (b .periods)))
 
-module _ (n c y : ℕ) (h : nanBits binary64 y ≡ true) where
-  zero-yield : checked (record { periods = n; terms = Zero (of y) }) ≡ Faulty
-  zero-yield = outside n (Zero (of y)) (ap yieldInRange (nan-of y h) ∙ yield-nan)
+module _ (b : Bond) (c y : ℕ) (h : nanBits binary64 y ≡ true) where
+  zero-yield : checked (withTerms b (Zero (of y))) ≡ Faulty
+  zero-yield = outside (withTerms b (Zero (of y))) (ap yieldInRange (nan-of y h) ∙ yield-nan)
 
-  fixed-yield : checked (record { periods = n; terms = Fixed (of c) (of y) }) ≡ Faulty
+  fixed-yield : checked (withTerms b (Fixed (of c) (of y))) ≡ Faulty
   fixed-yield =
-      outside n (Fixed (of c) (of y))
+      outside (withTerms b (Fixed (of c) (of y)))
       (ap (λ (x : Float). couponInRange (of c) && yieldInRange x) (nan-of y h)
-      ∙ ap (λ (b : Bool). couponInRange (of c) && b) yield-nan
+      ∙ ap (λ (t : Bool). couponInRange (of c) && t) yield-nan
       ∙ and-false (couponInRange (of c)))
 
-  pub yield-refused : (k : ℕ) → termFrom k n c y ≡ Faulty
+  pub yield-refused : (k : ℕ) → termFrom k b c y ≡ Faulty
   unfolding termFrom
   yield-refused k = rw (zero-yield, fixed-yield, cond-same (eqb c 0) Faulty, cond-same (eqb k 2) Faulty, cond-same (eqb k 1) Faulty)
 
-pub coupon-refused : (n c y : ℕ) → nanBits binary64 c ≡ true → checked (record { periods = n; terms = Fixed (of c) (of y) }) ≡ Faulty
-coupon-refused n c y h =
-    outside n (Fixed (of c) (of y))
-    (ap (λ (x : Float). couponInRange x && yieldInRange (of y)) (nan-of c h) ∙ ap (λ (b : Bool). b && yieldInRange (of y)) coupon-nan)
+pub coupon-refused : (b : Bond) (c y : ℕ) → nanBits binary64 c ≡ true → checked (withTerms b (Fixed (of c) (of y))) ≡ Faulty
+coupon-refused b c y h =
+    outside (withTerms b (Fixed (of c) (of y)))
+    (ap (λ (x : Float). couponInRange x && yieldInRange (of y)) (nan-of c h) ∙ ap (λ (t : Bool). t && yieldInRange (of y)) coupon-nan)
 
 -- what passed the test makes a number
 pub number : (r : Bool) (b : ℕ) → r ≡ nanBits binary64 b → r ≡ false → T (not (nanBits binary64 b))

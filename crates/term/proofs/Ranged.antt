@@ -1,5 +1,5 @@
 -- A term that is read has a bond in range: the law by which crates above use the reader. Assumes nothing.
-use mathlib.Core.Path.{_≡_, refl, sym, subst}
+use mathlib.Core.Path.{_≡_, subst}
 use mathlib.Core.Bool.{Bool, true, false, cond}
 use mathlib.Core.List.{List}
 use Prim.Native.Nat.{ℕ}
@@ -11,7 +11,7 @@ use Rattle.pricer.specs.Range.{inRange}
 use Rattle.pricer.specs.declared.Bond.{Bond}
 use Rattle.term.specs.declared.Reading.{Reading}
 use Rattle.term.specs.declared.Reading.the-variants.{Faulty, Valid}
-use Rattle.term.specs.Term.{checked, termFrom, termOf}
+use Rattle.term.specs.Term.{checked, termFrom, bareBond, termOf}
 
 -- what is read, if anything, is in range
 abbrev Fine : Reading → Type 0
@@ -26,15 +26,15 @@ checked-fine : (b : Bond) → Fine (checked b)
 unfolding checked
 checked-fine b = byBool (inRange b) (λ e. rw e e) (λ e. rw e tt)
 
-from-fine : (k n c y : ℕ) → Fine (termFrom k n c y)
+from-fine : (k : ℕ) (b : Bond) (c y : ℕ) → Fine (termFrom k b c y)
 unfolding termFrom
-from-fine k n c y =
+from-fine k b c y =
     either (eqb k 1) _ _ (either (eqb c 0) _ Faulty (checked-fine _) tt) (either (eqb k 2) _ Faulty (checked-fine _) tt)
 
 term-fine : (s : List ℕ) → Fine (termOf s)
 unfolding termOf
 term-fine s =
-    either (eqb (length s) 19) _ Faulty (either (eqb (getD s 2 0) 0) _ Faulty (from-fine (getD s 0 0) (getD s 1 0) (le64 s 3) (le64 s 11)) tt) tt
+    either (eqb (length s) 19) _ Faulty (either (eqb (getD s 2 0) 0) _ Faulty (from-fine (getD s 0 0) (bareBond s) (le64 s 3) (le64 s 11)) tt) tt
 
 pub read-in-range : (s : List ℕ) (b : Bond) → termOf s ≡ Valid b → inRange b ≡ true
 read-in-range s b e = subst Fine e (term-fine s)

@@ -9,6 +9,7 @@ use lib.ListN.{length, getD}
 use lib.Ieee.{Float, binary64, ofBits}
 use Rattle.endian.specs.Endian.{le64}
 use Rattle.pricer.specs.Range.{inRange}
+use Rattle.pricer.specs.Bonds.{noBond, withTerms}
 use Rattle.pricer.specs.declared.Bond.{Bond}
 use Rattle.pricer.specs.declared.Terms.the-variants.{Zero, Fixed}
 use Rattle.term.specs.declared.Reading.{Reading}
@@ -22,18 +23,22 @@ of bits = ofBits binary64 bits
 unfoldable pub checked : Bond → Reading
 checked b = cond (inRange b) (Valid b) Faulty
 
--- by kind: "a zero-coupon term's coupon has all 64 bits clear"
-unfoldable pub termFrom : ℕ → ℕ → ℕ → ℕ → Reading
-termFrom kind periods coupon ytm =
+-- by kind: "a zero-coupon term's coupon has all 64 bits clear"; b is the bond but for its terms
+unfoldable pub termFrom : ℕ → Bond → ℕ → ℕ → Reading
+termFrom kind b coupon ytm =
     cond (eqb kind 1)
-    (cond (eqb coupon 0) (checked (record { periods = periods; terms = Zero (of ytm) })) Faulty)
-    (cond (eqb kind 2) (checked (record { periods = periods; terms = Fixed (of coupon) (of ytm) })) Faulty)
+    (cond (eqb coupon 0) (checked (withTerms b (Zero (of ytm)))) Faulty)
+    (cond (eqb kind 2) (checked (withTerms b (Fixed (of coupon) (of ytm)))) Faulty)
+
+-- what its single bytes say of the bond, with the terms of no bond
+abbrev pub bareBond : List ℕ → Bond
+bareBond s = record { periods = getD s 1 0; terms = noBond .terms }
 
 -- 19 bytes: kind, periods, spare, coupon, yield
 unfoldable pub termOf : List ℕ → Reading
 termOf s =
     cond (eqb (length s) 19)
-    (cond (eqb (getD s 2 0) 0) (termFrom (getD s 0 0) (getD s 1 0) (le64 s 3) (le64 s 11)) Faulty)
+    (cond (eqb (getD s 2 0) 0) (termFrom (getD s 0 0) (bareBond s) (le64 s 3) (le64 s 11)) Faulty)
     Faulty
 
 -- the number of each case, "Where each refusal is checked": 7 "term outside the rules", or 0

@@ -28,9 +28,9 @@ fn in_rules(b: Bond) -> Reading
     }
 }
 
-// The bond of a kind, periods, and the bits of coupon and yield. No number is a NaN's, so its bits are looked for first.
-fn from_fields(kind: u8, periods: u8, coupon: u64, ytm: u64) -> Reading
-    ensures { λ r. ⌜ r ≡ termFrom kind periods coupon ytm ⌝ }
+// The bond b with the terms of a kind and the bits of coupon and yield. No number is a NaN's, so its bits are looked for first.
+fn from_fields(kind: u8, b: Bond, coupon: u64, ytm: u64) -> Reading
+    ensures { λ r. ⌜ r ≡ termFrom kind b coupon ytm ⌝ }
 {
     if is_nan(ytm) {
         return Reading::Faulty;
@@ -40,10 +40,7 @@ fn from_fields(kind: u8, periods: u8, coupon: u64, ytm: u64) -> Reading
         if coupon != 0 {
             return Reading::Faulty;
         }
-        return in_rules(Bond {
-            periods,
-            terms: Terms::Zero(y),
-        });
+        return in_rules(pricer::with_terms(b, Terms::Zero(y)));
     }
     if kind != 2 {
         return Reading::Faulty;
@@ -52,10 +49,7 @@ fn from_fields(kind: u8, periods: u8, coupon: u64, ytm: u64) -> Reading
         return Reading::Faulty;
     }
     let c = f64::from_bits(coupon);
-    in_rules(Bond {
-        periods,
-        terms: Terms::Fixed(c, y),
-    })
+    in_rules(pricer::with_terms(b, Terms::Fixed(c, y)))
 }
 
 // Reads the 19 bytes of a term. Any other number of bytes is no term.
@@ -68,5 +62,7 @@ pub fn read(s: &[u8]) -> Reading
     if s[2] != 0 {
         return Reading::Faulty;
     }
-    from_fields(s[0], s[1], endian::u64_at(s, 3), endian::u64_at(s, 11))
+    let mut bare = pricer::NO_BOND;
+    bare.periods = s[1];
+    from_fields(s[0], bare, endian::u64_at(s, 3), endian::u64_at(s, 11))
 }

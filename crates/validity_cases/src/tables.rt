@@ -6,25 +6,19 @@ use table::Machine;
 use table::Message;
 use table::Table;
 
+fn bond(periods: u8, terms: Terms) -> Bond {
+    Bond {
+        periods,
+        terms,
+    }
+}
+
 // Entries 0 and 2 with a fixed coupon, entry 1 a zero.
 fn bonds() -> [Bond; 64] {
-    let none = Bond {
-        periods: 0,
-        terms: Terms::Zero(0.0),
-    };
-    let mut all = [none; 64];
-    all[0] = Bond {
-        periods: 2,
-        terms: Terms::Fixed(4.0, 0.5),
-    };
-    all[1] = Bond {
-        periods: 2,
-        terms: Terms::Zero(0.5),
-    };
-    all[2] = Bond {
-        periods: 240,
-        terms: Terms::Fixed(100.0, 1.0),
-    };
+    let mut all = [pricer::NO_BOND; 64];
+    all[0] = bond(2, Terms::Fixed(4.0, 0.5));
+    all[1] = bond(2, Terms::Zero(0.5));
+    all[2] = bond(240, Terms::Fixed(100.0, 1.0));
     all
 }
 
@@ -178,25 +172,15 @@ fn with_count(t: Table, field: u8, value: u8) -> Table {
 
 // Fields 4 to 7: the periods, a zero's yield, a fixed coupon bond's coupon, a fixed coupon bond's yield.
 fn new_bond(b: Bond, field: u8, value: u8) -> Bond {
-    let n = b.periods;
-    let x = b.terms;
+    if field == 4 {
+        let mut u = b;
+        u.periods = value;
+        return u;
+    }
     match field {
-        4 => Bond {
-            periods: value,
-            terms: x,
-        },
-        5 => Bond {
-            periods: n,
-            terms: Terms::Zero(rate(value)),
-        },
-        6 => Bond {
-            periods: n,
-            terms: Terms::Fixed(rate(value), 0.5),
-        },
-        _ => Bond {
-            periods: n,
-            terms: Terms::Fixed(4.0, rate(value)),
-        },
+        5 => pricer::with_terms(b, Terms::Zero(rate(value))),
+        6 => pricer::with_terms(b, Terms::Fixed(rate(value), 0.5)),
+        _ => pricer::with_terms(b, Terms::Fixed(4.0, rate(value))),
     }
 }
 

@@ -200,7 +200,7 @@ pub fn harm(rng: &mut Rng, bytes: &mut [u8]) {
         return;
     }
     if rng.chance(1, 25) {
-        bytes[fields::IN_FLIGHT] = value(rng, bytes, fields::IN_FLIGHT);
+        bytes[IN_FLIGHT_AT] = value(rng, bytes, IN_FLIGHT_AT);
         return;
     }
     let used = rng.chance(4, 5);
@@ -214,7 +214,7 @@ pub fn harm(rng: &mut Rng, bytes: &mut [u8]) {
 
 fn value(rng: &mut Rng, bytes: &[u8], at: usize) -> u8 {
     let (machines, entries, old) = (bytes[0], bytes[1], bytes[at]);
-    let told = bytes[2098..2114].iter().filter(|&&flag| flag == 1).count() as u8;
+    let told = bytes[TOLD_AT..TOLD_AT + MACHINES].iter().filter(|&&flag| flag == 1).count() as u8;
     let near = [machines, entries, told + 1, old, 0, 1, 2, 9, 16, 64, 128, 240];
     match rng.below(6) {
         0 => rng.byte(),

@@ -1,6 +1,7 @@
 //! The fields of a kept table by their offsets: for naming a byte and for choosing one to damage.
 
 use crate::rng::Rng;
+use second::table::*;
 
 /// A run of equal elements, each with named fields of one byte or eight.
 struct Region {
@@ -15,23 +16,23 @@ const REGIONS: [Region; 7] = [
     Region { name: "counts", start: 0, count: 1, width: 2, fields: &[("machines", 1), ("entries", 1)] },
     Region {
         name: "terms",
-        start: 2,
-        count: 64,
-        width: 18,
+        start: TERMS_AT,
+        count: ENTRIES,
+        width: TERM_BYTES,
         fields: &[("case", 1), ("periods", 1), ("coupon", 8), ("yield", 8)],
     },
     Region {
         name: "jobs",
-        start: 1154,
-        count: 64,
-        width: 13,
+        start: JOBS_AT,
+        count: ENTRIES,
+        width: JOB_BYTES,
         fields: &[("state", 1), ("replica", 1), ("moving", 1), ("holder", 1), ("thief", 1), ("price", 8)],
     },
     Region {
         name: "machines",
-        start: 1986,
-        count: 16,
-        width: 7,
+        start: MACHINES_AT,
+        count: MACHINES,
+        width: MACHINE_BYTES,
         fields: &[
             ("alive", 1),
             ("reserved job", 1),
@@ -42,13 +43,13 @@ const REGIONS: [Region; 7] = [
             ("waits", 1),
         ],
     },
-    Region { name: "told", start: 2098, count: 256, width: 1, fields: &[("flag", 1)] },
-    Region { name: "pools", start: 2354, count: 1024, width: 1, fields: &[("replica", 1)] },
+    Region { name: "told", start: TOLD_AT, count: MACHINES * MACHINES, width: 1, fields: &[("flag", 1)] },
+    Region { name: "pools", start: POOLS_AT, count: MACHINES * ENTRIES, width: 1, fields: &[("replica", 1)] },
     Region {
         name: "messages",
-        start: 3379,
-        count: 128,
-        width: 14,
+        start: MESSAGES_AT,
+        count: MESSAGES,
+        width: MESSAGE_BYTES,
         fields: &[
             ("kind", 1),
             ("from", 1),
@@ -60,9 +61,6 @@ const REGIONS: [Region; 7] = [
         ],
     },
 ];
-
-/// The offset of the number of messages in flight.
-pub const IN_FLIGHT: usize = 3378;
 
 /// A field's name and place.
 pub struct Field {
@@ -80,7 +78,7 @@ pub fn any(rng: &mut Rng, table: &[u8], used: bool) -> Field {
         (true, "machines") => rng.below(machines),
         (true, "told") => 16 * rng.below(machines) + rng.below(machines),
         (true, "pools") => 64 * rng.below(machines) + rng.below(entries),
-        (true, "messages") => rng.below(usize::from(table[IN_FLIGHT])),
+        (true, "messages") => rng.below(usize::from(table[IN_FLIGHT_AT])),
         _ => rng.below(region.count),
     };
     let number = rng.below(region.fields.len());
@@ -91,7 +89,7 @@ pub fn any(rng: &mut Rng, table: &[u8], used: bool) -> Field {
 
 /// The name of a byte, as "jobs 3 replica".
 pub fn name(offset: usize) -> String {
-    if offset == IN_FLIGHT {
+    if offset == IN_FLIGHT_AT {
         return "messages in flight".into();
     }
     let Some(region) = REGIONS.iter().rfind(|region| region.start <= offset) else { return String::new() };

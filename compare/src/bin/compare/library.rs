@@ -88,7 +88,7 @@ pub struct Library {
 }
 
 /// The least buffer of a page.
-pub const PAGE_BUFFER: usize = 463_072;
+pub use second::page::LONGEST as PAGE_BUFFER;
 const INPUT: usize = 1 << 17;
 
 impl Library {

@@ -1,5 +1,7 @@
 -- `book::bond_in` meets its contract: a reading that is no bond gives the definition's. Assumes nothing.
+use mathlib.Core.Path.{sym, ap}
 use lib.Ieee.{ofBits}
+use Rattle.book.specs.Parts.{bondIn}
 use borrow.Author.Needs.{needs}
 use Rattle.book.proofs.bond_in.Statement.{statement}
 use Rattle.book.proofs.bond_in.Tie as tie
@@ -12,7 +14,7 @@ enum-known-r c = search needs
 
 returns : tie.Need-returns
 unfolding ofBits
-returns c = cc
+returns c = ap bondIn (sym (c .enum-told .given .1))
 
 returns-2 : tie.Need-returns-2
 returns-2 c = search needs

@@ -1,30 +1,27 @@
 -- `kept_read::bonds` meets its contract. The invariant of its loop: the first i elements are read. Assumes nothing.
 use Rattle.lists.proofs.Rules.{tests}
-use Prim.Native.Nat.{_+_, _*_, _-_, _≤_}
+use Prim.Native.Nat.{_-_, _≤_}
 use mathlib.Core.Path.{_≡_, ap, _∙_}
 use lib.ListN.{length, set}
 use Rattle.lists.specs.Scan.{padTo, tabulate}
 use Rattle.lists.proofs.Scans.{tabulate-none, tabulate-more}
-use lib.Ieee.{binary64, ofBits}
+use lib.Ieee.{ofBits}
+use Rattle.pricer.specs.Bonds.{noBond}
 use Rattle.pricer.specs.declared.Bond.{Bond}
-use Rattle.pricer.specs.declared.Terms.the-variants.{Zero}
-use Rattle.kept_read.specs.Layout.{bondFrom, bondsFrom}
+use Rattle.kept_read.specs.Layout.{tableSize, bondStart, bondFrom, bondsFrom}
 use Rattle.kept_read.proofs.Filled.{filled}
 use Rattle.kept_read.proofs.bonds.Statement.{statement}
 use Rattle.kept_read.proofs.bonds.Tie as tie
 
--- what the array holds before it is filled
-abbrev blank : Bond
-blank = record { periods = 0; terms = Zero (ofBits binary64 0) }
-
 abbrev Inv-loop : tie.InvT-loop
-Inv-loop s out₀ i₀ out i = (length s ≡ 5171) × (i ≤ 64) × (out ≡ padTo 64 blank (tabulate (λ k. bondFrom s (2 + 18 * k)) i))
+Inv-loop s out₀ i₀ out i = (length s ≡ tableSize) × (i ≤ 64) × (out ≡ padTo 64 noBond (tabulate (λ k. bondFrom s (bondStart k)) i))
 
 abbrev μ-loop : tie.MeasureT-loop
 μ-loop s out₀ i₀ out i = 64 - i
 
 loop-holds : tie.Need-loop-holds Inv-loop μ-loop
-loop-holds c = (search tests, search tests, tabulate-none _ 64 blank)
+unfolding ofBits
+loop-holds c = (search tests, search tests, tabulate-none _ 64 noBond)
 
 mul-bond : tie.Need-mul-bond Inv-loop μ-loop
 mul-bond c = search tests
@@ -54,12 +51,12 @@ loop-again c =
       l .loop .inv .0,
       search tests,
       ap (λ (x : Bond). set (l .loop .out) (l .loop .i) x) (c .bond .ensures)
-          ∙ tabulate-more (λ k. bondFrom s (2 + 18 * k)) 64 blank (l .loop .i) (l .loop .out) (search tests) (l .loop .inv .2),
+          ∙ tabulate-more (λ k. bondFrom s (bondStart k)) 64 noBond (l .loop .i) (l .loop .out) (search tests) (l .loop .inv .2),
     )
 
 returns : tie.Need-returns Inv-loop μ-loop
 unfolding bondsFrom
-returns c = filled _ 64 blank (c .before .loop .i) (c .before .loop .out) (search tests) (search tests) (c .before .loop .inv .2)
+returns c = filled _ 64 noBond (c .before .loop .i) (c .before .loop .out) (search tests) (search tests) (c .before .loop .inv .2)
 
 pub bonds-spec : {M : Type 1} → statement M
 bonds-spec =

@@ -1,6 +1,6 @@
 -- `kept_read::formed` meets its contract. The invariant of its loop: the first i entries have a case. Assumes nothing.
 use Rattle.lists.proofs.Rules.{tests}
-use Prim.Native.Nat.{_+_, _*_, _-_, _≤_}
+use Prim.Native.Nat.{_-_, _≤_}
 use mathlib.Core.Path.{_≡_, sym, _∙_}
 use mathlib.Core.Bool.{true}
 use borrow.Author.Tests.{not-true, not-false, eq-eqb}
@@ -8,12 +8,12 @@ use lib.ListN.{length}
 use Rattle.lists.specs.Scan.{all}
 use Rattle.lists.proofs.Rules.{flags}
 use Rattle.lists.proofs.Scans.{all-none, all-more, all-fail, all-end}
-use Rattle.kept_read.specs.Layout.{termsFormed, formed}
+use Rattle.kept_read.specs.Layout.{tableSize, bondStart, termsFormed, formed}
 use Rattle.kept_read.proofs.formed.Statement.{statement}
 use Rattle.kept_read.proofs.formed.Tie as tie
 
 abbrev Inv-loop : tie.InvT-loop
-Inv-loop s i₀ i = (length s ≡ 5171) × (i ≤ 64) × (all (λ k. termsFormed s (2 + 18 * k)) i ≡ true)
+Inv-loop s i₀ i = (length s ≡ tableSize) × (i ≤ 64) × (all (λ k. termsFormed s (bondStart k)) i ≡ true)
 
 abbrev μ-loop : tie.MeasureT-loop
 μ-loop s i₀ i = 64 - i
@@ -40,7 +40,7 @@ returns-2 c =
     let s = c .before .before .before .before .before .before .args .s .now in
     let i = c .before .before .before .loop .i in
     rw (eq-eqb _ _ (c .before .before .before .loop .inv .0))
-    (sym (all-fail (λ k. termsFormed s (2 + 18 * k)) 64 i (search tests) (sym (c .before .terms-formed .ensures) ∙ not-true _ (c .if2 .taken))))
+    (sym (all-fail (λ k. termsFormed s (bondStart k)) 64 i (search tests) (sym (c .before .terms-formed .ensures) ∙ not-true _ (c .if2 .taken))))
 
 add-i : tie.Need-add-i Inv-loop μ-loop
 add-i c = search tests

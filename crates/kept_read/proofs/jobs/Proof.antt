@@ -1,19 +1,19 @@
 -- `kept_read::jobs` meets its contract. The invariant of its loop: the first i elements are read. Assumes nothing.
 use Rattle.lists.proofs.Rules.{tests}
-use Prim.Native.Nat.{_+_, _*_, _-_, _≤_}
+use Prim.Native.Nat.{_-_, _≤_}
 use mathlib.Core.Path.{_≡_, ap, _∙_}
 use lib.ListN.{length, set}
 use Rattle.lists.specs.Scan.{padTo, tabulate}
 use Rattle.lists.proofs.Scans.{tabulate-none, tabulate-more}
 use Rattle.table.specs.Views.{noJob}
 use Rattle.table.specs.declared.Job.{Job}
-use Rattle.kept_read.specs.Layout.{jobFrom, jobsFrom}
+use Rattle.kept_read.specs.Layout.{tableSize, jobStart, jobFrom, jobsFrom}
 use Rattle.kept_read.proofs.Filled.{filled}
 use Rattle.kept_read.proofs.jobs.Statement.{statement}
 use Rattle.kept_read.proofs.jobs.Tie as tie
 
 abbrev Inv-loop : tie.InvT-loop
-Inv-loop s out₀ i₀ out i = (length s ≡ 5171) × (i ≤ 64) × (out ≡ padTo 64 noJob (tabulate (λ k. jobFrom s (1154 + 13 * k)) i))
+Inv-loop s out₀ i₀ out i = (length s ≡ tableSize) × (i ≤ 64) × (out ≡ padTo 64 noJob (tabulate (λ k. jobFrom s (jobStart k)) i))
 
 abbrev μ-loop : tie.MeasureT-loop
 μ-loop s out₀ i₀ out i = 64 - i
@@ -49,7 +49,7 @@ loop-again c =
       l .loop .inv .0,
       search tests,
       ap (λ (x : Job). set (l .loop .out) (l .loop .i) x) (c .job .ensures)
-          ∙ tabulate-more (λ k. jobFrom s (1154 + 13 * k)) 64 noJob (l .loop .i) (l .loop .out) (search tests) (l .loop .inv .2),
+          ∙ tabulate-more (λ k. jobFrom s (jobStart k)) 64 noJob (l .loop .i) (l .loop .out) (search tests) (l .loop .inv .2),
     )
 
 returns : tie.Need-returns Inv-loop μ-loop

@@ -1,19 +1,19 @@
 -- `kept_read::machines` meets its contract. The invariant of its loop: the first i elements are read. Assumes nothing.
 use Rattle.lists.proofs.Rules.{tests}
-use Prim.Native.Nat.{_+_, _*_, _-_, _≤_}
+use Prim.Native.Nat.{_-_, _≤_}
 use mathlib.Core.Path.{_≡_, ap, _∙_}
 use lib.ListN.{length, set}
 use Rattle.lists.specs.Scan.{padTo, tabulate}
 use Rattle.lists.proofs.Scans.{tabulate-none, tabulate-more}
 use Rattle.table.specs.Views.{noMachine}
 use Rattle.table.specs.declared.Machine.{Machine}
-use Rattle.kept_read.specs.Layout.{machineFrom, machinesFrom}
+use Rattle.kept_read.specs.Layout.{tableSize, machineStart, machineFrom, machinesFrom}
 use Rattle.kept_read.proofs.Filled.{filled}
 use Rattle.kept_read.proofs.machines.Statement.{statement}
 use Rattle.kept_read.proofs.machines.Tie as tie
 
 abbrev Inv-loop : tie.InvT-loop
-Inv-loop s out₀ i₀ out i = (length s ≡ 5171) × (i ≤ 16) × (out ≡ padTo 16 noMachine (tabulate (λ k. machineFrom s (1986 + 7 * k)) i))
+Inv-loop s out₀ i₀ out i = (length s ≡ tableSize) × (i ≤ 16) × (out ≡ padTo 16 noMachine (tabulate (λ k. machineFrom s (machineStart k)) i))
 
 abbrev μ-loop : tie.MeasureT-loop
 μ-loop s out₀ i₀ out i = 16 - i
@@ -49,7 +49,7 @@ loop-again c =
       l .loop .inv .0,
       search tests,
       ap (λ (x : Machine). set (l .loop .out) (l .loop .i) x) (c .machine .ensures)
-          ∙ tabulate-more (λ k. machineFrom s (1986 + 7 * k)) 16 noMachine (l .loop .i) (l .loop .out) (search tests) (l .loop .inv .2),
+          ∙ tabulate-more (λ k. machineFrom s (machineStart k)) 16 noMachine (l .loop .i) (l .loop .out) (search tests) (l .loop .inv .2),
     )
 
 returns : tie.Need-returns Inv-loop μ-loop

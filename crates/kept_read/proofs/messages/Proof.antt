@@ -1,19 +1,19 @@
 -- `kept_read::messages` meets its contract. The invariant of its loop: the first i elements are read. Assumes nothing.
 use Rattle.lists.proofs.Rules.{tests}
-use Prim.Native.Nat.{_+_, _*_, _-_, _≤_}
+use Prim.Native.Nat.{_-_, _≤_}
 use mathlib.Core.Path.{_≡_, ap, _∙_}
 use lib.ListN.{length, set}
 use Rattle.lists.specs.Scan.{padTo, tabulate}
 use Rattle.lists.proofs.Scans.{tabulate-none, tabulate-more}
 use Rattle.table.specs.Views.{noMessage}
 use Rattle.table.specs.declared.Message.{Message}
-use Rattle.kept_read.specs.Layout.{messageFrom, messagesFrom}
+use Rattle.kept_read.specs.Layout.{tableSize, messageStart, messageFrom, messagesFrom}
 use Rattle.kept_read.proofs.Filled.{filled}
 use Rattle.kept_read.proofs.messages.Statement.{statement}
 use Rattle.kept_read.proofs.messages.Tie as tie
 
 abbrev Inv-loop : tie.InvT-loop
-Inv-loop s out₀ i₀ out i = (length s ≡ 5171) × (i ≤ 128) × (out ≡ padTo 128 noMessage (tabulate (λ k. messageFrom s (3379 + 14 * k)) i))
+Inv-loop s out₀ i₀ out i = (length s ≡ tableSize) × (i ≤ 128) × (out ≡ padTo 128 noMessage (tabulate (λ k. messageFrom s (messageStart k)) i))
 
 abbrev μ-loop : tie.MeasureT-loop
 μ-loop s out₀ i₀ out i = 128 - i
@@ -49,7 +49,7 @@ loop-again c =
       l .loop .inv .0,
       search tests,
       ap (λ (x : Message). set (l .loop .out) (l .loop .i) x) (c .message .ensures)
-          ∙ tabulate-more (λ k. messageFrom s (3379 + 14 * k)) 128 noMessage (l .loop .i) (l .loop .out) (search tests) (l .loop .inv .2),
+          ∙ tabulate-more (λ k. messageFrom s (messageStart k)) 128 noMessage (l .loop .i) (l .loop .out) (search tests) (l .loop .inv .2),
     )
 
 returns : tie.Need-returns Inv-loop μ-loop

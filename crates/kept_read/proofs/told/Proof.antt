@@ -5,13 +5,13 @@ use mathlib.Core.Path.{_≡_}
 use lib.ListN.{length, getD}
 use Rattle.lists.specs.Scan.{padTo, tabulate}
 use Rattle.lists.proofs.Scans.{tabulate-none, tabulate-more}
-use Rattle.kept_read.specs.Layout.{toldFrom}
+use Rattle.kept_read.specs.Layout.{tableSize, toldStart, toldFrom}
 use Rattle.kept_read.proofs.Filled.{filled}
 use Rattle.kept_read.proofs.told.Statement.{statement}
 use Rattle.kept_read.proofs.told.Tie as tie
 
 abbrev Inv-loop : tie.InvT-loop
-Inv-loop s out₀ i₀ out i = (length s ≡ 5171) × (i ≤ 256) × (out ≡ padTo 256 0 (tabulate (λ k. getD s (2098 + k) 0) i))
+Inv-loop s out₀ i₀ out i = (length s ≡ tableSize) × (i ≤ 256) × (out ≡ padTo 256 0 (tabulate (λ k. getD s (toldStart + k) 0) i))
 
 abbrev μ-loop : tie.MeasureT-loop
 μ-loop s out₀ i₀ out i = 256 - i
@@ -40,7 +40,7 @@ loop-again c =
     let s = l .before .args .s .now in (
       l .loop .inv .0,
       search tests,
-      tabulate-more (λ k. getD s (2098 + k) 0) 256 0 (l .loop .i) (l .loop .out) (search tests) (l .loop .inv .2),
+      tabulate-more (λ k. getD s (toldStart + k) 0) 256 0 (l .loop .i) (l .loop .out) (search tests) (l .loop .inv .2),
     )
 
 returns : tie.Need-returns Inv-loop μ-loop

@@ -1,8 +1,6 @@
 -- `kept_write::put_entries` meets its contract. Assumes nothing.
+use Rattle.kept_write.proofs.Lengths.{end-bonds, written-entries}
 use native.Mathlib.Omega.{arith}
-use Rattle.text.proofs.Over.{then-two}
-use Rattle.kept_write.specs.Bytes.{entriesBytes}
-use Rattle.kept_write.proofs.Lengths.{length-bonds, length-entries}
 use borrow.Author.Needs.{needs}
 use Rattle.kept_write.proofs.put_entries.Statement.{statement}
 use Rattle.kept_write.proofs.put_entries.Tie as tie
@@ -17,14 +15,13 @@ put-bonds-requires : tie.Need-put-bonds-requires
 put-bonds-requires c κs = search needs
 
 put-jobs-requires : tie.Need-put-jobs-requires
-put-jobs-requires c κs = omega (arith, length-bonds (c .before .before .before .before .before .before .before .before .before .before .before .before .before .args .t .bonds))
+put-jobs-requires c κs = omega (arith, end-bonds)
 
 same-length : tie.Need-same-length
 same-length c = search needs
 
 returns : tie.Need-returns
-unfolding entriesBytes
-returns c = then-two (c .before .before .before .before .before .before .before .before .before .before .put .ensures) (c .before .before .before .before .before .before .put-bonds .ensures) (c .before .before .put-jobs .ensures) (omega (arith, length-entries (c .before .before .before .before .before .before .before .before .before .before .before .before .before .before .before .before .args .t)))
+returns c = search written-entries
 
 pub put-entries-spec : {M : Type 1} → statement M
 put-entries-spec =

@@ -1,8 +1,5 @@
 -- `kept_write::put_flight` meets its contract. Assumes nothing.
-use native.Mathlib.Omega.{arith}
-use Rattle.text.proofs.Over.{then}
-use Rattle.kept_write.specs.Bytes.{flightBytes}
-use Rattle.kept_write.proofs.Lengths.{length-flight}
+use Rattle.kept_write.proofs.Lengths.{written-flight}
 use borrow.Author.Needs.{needs}
 use Rattle.kept_write.proofs.put_flight.Statement.{statement}
 use Rattle.kept_write.proofs.put_flight.Tie as tie
@@ -20,8 +17,7 @@ same-length : tie.Need-same-length
 same-length c = search needs
 
 returns : tie.Need-returns
-unfolding flightBytes
-returns c = then (c .before .before .before .before .before .before .put .ensures) (c .before .before .put-messages .ensures) (omega (arith, length-flight (c .before .before .before .before .before .before .before .before .before .before .before .args .t)))
+returns c = search written-flight
 
 pub put-flight-spec : {M : Type 1} → statement M
 put-flight-spec =

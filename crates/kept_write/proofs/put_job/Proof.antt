@@ -1,8 +1,5 @@
 -- `kept_write::put_job` meets its contract. Assumes nothing.
-use native.Mathlib.Omega.{arith}
-use Rattle.text.proofs.Over.{then}
-use Rattle.kept_write.specs.Bytes.{jobBytes}
-use Rattle.kept_write.proofs.Lengths.{length-job}
+use Rattle.kept_write.proofs.Lengths.{written-job}
 use borrow.Author.Needs.{needs}
 use Rattle.kept_write.proofs.put_job.Statement.{statement}
 use Rattle.kept_write.proofs.put_job.Tie as tie
@@ -20,8 +17,7 @@ same-length : tie.Need-same-length
 same-length c = search needs
 
 returns : tie.Need-returns
-unfolding jobBytes
-returns c = then (c .before .before .before .before .before .before .put .ensures) (c .before .before .put-u64 .ensures) (omega (arith, length-job (c .before .before .before .before .before .before .before .before .before .before .args .v)))
+returns c = search written-job
 
 pub put-job-spec : {M : Type 1} → statement M
 put-job-spec =

@@ -1,8 +1,5 @@
 -- `kept_write::put_message` meets its contract. Assumes nothing.
-use native.Mathlib.Omega.{arith}
-use Rattle.text.proofs.Over.{then}
-use Rattle.kept_write.specs.Bytes.{messageBytes}
-use Rattle.kept_write.proofs.Lengths.{length-message}
+use Rattle.kept_write.proofs.Lengths.{written-message}
 use borrow.Author.Needs.{needs}
 use Rattle.kept_write.proofs.put_message.Statement.{statement}
 use Rattle.kept_write.proofs.put_message.Tie as tie
@@ -20,8 +17,7 @@ same-length : tie.Need-same-length
 same-length c = search needs
 
 returns : tie.Need-returns
-unfolding messageBytes
-returns c = then (c .before .before .before .before .before .before .put .ensures) (c .before .before .put-u64 .ensures) (omega (arith, length-message (c .before .before .before .before .before .before .before .before .before .before .args .m)))
+returns c = search written-message
 
 pub put-message-spec : {M : Type 1} → statement M
 put-message-spec =

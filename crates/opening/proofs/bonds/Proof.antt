@@ -9,7 +9,8 @@ use mathlib.Core.Path.{_≡_, ap, _∙_}
 use Rattle.lists.proofs.Scans.{tabulate-none, tabulate-more, tabulate-end}
 use Rattle.opening.proofs.Counts.{entries-most}
 use Rattle.lists.specs.Scan.{padTo, tabulate}
-use Rattle.book.specs.Parts.{entryCount, noBond, bondOf}
+use Rattle.pricer.specs.Bonds.{noBond}
+use Rattle.book.specs.Parts.{entryCount, bondOf}
 use Rattle.book.proofs.Accepted.{counted, bond-counted}
 use Rattle.opening.specs.Opening.{bondsOf}
 use Rattle.opening.proofs.bonds.Statement.{statement}

@@ -1,5 +1,5 @@
 -- `term::from_fields` meets its contract: a NaN's bits are refused by the definition too, and past them each return is its case. Assumes nothing.
-use mathlib.Core.Path.{sym, ap, _∙_}
+use mathlib.Core.Path.{sym, _∙_}
 use Rattle.lists.proofs.Rules.{flags}
 use Rattle.term.specs.Term.{termFrom}
 use Rattle.term.proofs.Nans.{yield-refused, coupon-refused, number}
@@ -20,12 +20,15 @@ returns-2 : tie.Need-returns-2
 unfolding termFrom
 returns-2 c = search flags
 
+with-terms-requires : tie.Need-with-terms-requires
+with-terms-requires c κs = search needs
+
 in-rules-requires : tie.Need-in-rules-requires
 in-rules-requires c κs = search needs
 
 returns-3 : tie.Need-returns-3
 unfolding termFrom
-returns-3 c = rw (c .in-rules .ensures) (search flags)
+returns-3 c = rw (c .in-rules .ensures, c .before .with-terms .ensures) (search flags)
 
 returns-4 : tie.Need-returns-4
 unfolding termFrom
@@ -41,12 +44,15 @@ returns-5 c = rw (coupon-refused _ _ _ (sym (c .before .is-nan2 .ensures) ∙ c 
 float-from-bits-c : tie.Need-float-from-bits-c
 float-from-bits-c c = number _ _ (c .before .is-nan2 .ensures) (c .if5 .left)
 
+with-terms-requires-2 : tie.Need-with-terms-requires-2
+with-terms-requires-2 c κs = search needs
+
 in-rules-requires-2 : tie.Need-in-rules-requires-2
 in-rules-requires-2 c κs = search needs
 
 returns-6 : tie.Need-returns-6
 unfolding termFrom
-returns-6 c = rw (c .in-rules2 .ensures) (search flags)
+returns-6 c = rw (c .in-rules2 .ensures, c .before .with-terms2 .ensures) (search flags)
 
 pub from-fields-spec : {M : Type 1} → statement M
 from-fields-spec =
@@ -56,11 +62,13 @@ from-fields-spec =
     returns
     float-from-bits-y
     returns-2
+    with-terms-requires
     in-rules-requires
     returns-3
     returns-4
     is-nan-requires-2
     returns-5
     float-from-bits-c
+    with-terms-requires-2
     in-rules-requires-2
     returns-6)
