@@ -1,6 +1,6 @@
 -- The dead machines of a table are as many as the accepted events of code 6, counted from a table without any; and no replica number is above 1 + their number.
 -- Assumes nothing.
-use Prim.Native.Nat.{ℕ, _+_, _≤_, _<_}
+use Prim.Native.Nat.{ℕ, _+_, _≤_}
 use mathlib.Core.Path.{_≡_, refl, sym, ap, _∙_}
 use mathlib.Core.Logic.{_≢_}
 use mathlib.Core.Bool.{Bool, true, false, not, cond, _&&_}
@@ -13,10 +13,9 @@ use Rattle.lists.proofs.Count.{countTo-up, countTo-same, countTo-one}
 use Rattle.table.specs.declared.Machine.{Machine}
 use Rattle.table.specs.declared.Table.{Table}
 use Rattle.table.specs.declared.Answer.{Answer}
-use Rattle.table.specs.Views.{nodeAt, toldAt, messageAt}
-use Rattle.table.specs.Messages.{oldest, pull}
+use Rattle.table.specs.Views.{nodeAt, toldAt}
+use Rattle.table.specs.Messages.{oldest}
 use Rattle.table.specs.Parts.{accept}
-use Rattle.table.proofs.Views.{node-messages}
 use Rattle.validity.specs.Validity.{bound}
 use Rattle.events.specs.Events.{admitted, delivered, died}
 use Rattle.steal.specs.Steal.{stolen}
@@ -24,17 +23,15 @@ use Rattle.work.specs.Work.{started, finished}
 use Rattle.notice.specs.Notice.{noticed}
 use Rattle.preservation.proofs.Facts.{told-in, told-dead}
 use Rattle.invariant.proofs.State.{Whole, machine-16}
-use Rattle.invariant.proofs.Hand.{hand}
 use Rattle.dispatcher.proofs.Fixed.{fixed-machines, fixed-admitted, fixed-stolen, fixed-delivered, fixed-started, fixed-finished, fixed-died, fixed-noticed}
 use Rattle.events.proofs.Views.{node-died, node-died-other}
-use Rattle.invariant.proofs.Alive.{alive-admitted, alive-stolen, alive-started, alive-finished, alive-noticed}
+use Rattle.invariant.proofs.Alive.{alive-admitted, alive-stolen, alive-delivered, alive-started, alive-finished, alive-noticed}
 use Rattle.invariant.proofs.Keeps.{whole-step}
 use Rattle.dispatcher.specs.Codes.{ADMIT, STEAL, DELIVER, START, DONE, DIE, NOTICE}
 use Rattle.dispatcher.specs.Step.{codeOf, firstOf, secondOf, stepOf, runOf}
 use Rattle.table.proofs.Refusals.{refused-nonzero}
 use Rattle.dispatcher.proofs.Events.{by-cases}
 use Rattle.events.proofs.Cases.{Dying}
-use Rattle.drain.proofs.Weights.{lighter}
 use Rattle.claims.specs.History.{countOf, kills}
 use Rattle.claims.proofs.Runs.{count-more, count-none}
 
@@ -68,10 +65,6 @@ deaths-died t a w c =
 -- ---- any event
 
 module _ (t : Table) (w : Whole t) (e : List ℕ) where
-  alive-delivered : (k m : ℕ) → k < t .«in_flight» → nodeAt (delivered t k) m .alive ≡ nodeAt t m .alive
-  unfolding delivered pull
-  alive-delivered k m l = lighter (pull t k) (messageAt t k) (hand t k w l) .alive m ∙ ap (λ (n : Machine). n .alive) (node-messages t _ _ m)
-
   abbrev Counted : Answer → Type 0
   Counted x = deaths (x .table) ≡ deaths t + cond (eqb (x .number) 0 && eqb (codeOf e) DIE) 1 0
 
@@ -88,12 +81,11 @@ module _ (t : Table) (w : Whole t) (e : List ℕ) where
       by-cases Counted t e (λ n r. rw (ne-eqb n 0 (refused-nonzero 9 n (omega arith) r)) (omega arith)) (record {
         admit = λ c d. quiet (admitted t a) ADMIT c refl (deaths-same t _ (fixed-admitted (λ s. s .machines) fixed-machines t a) (alive-admitted t a));
         steal = λ c d. quiet (stolen t a b) STEAL c refl (deaths-same t _ (fixed-stolen (λ s. s .machines) fixed-machines t a b) (alive-stolen t a b));
-        deliver = λ c d. quiet (delivered t (oldest t a b)) DELIVER c refl (deaths-same t _ (fixed-delivered (λ s. s .machines) fixed-machines t (oldest t a b)) (λ m. alive-delivered (oldest t a b) m (d .slot)));
+        deliver = λ c d. quiet (delivered t (oldest t a b)) DELIVER c refl (deaths-same t _ (fixed-delivered (λ s. s .machines) fixed-machines t (oldest t a b)) (alive-delivered t (oldest t a b)));
         start = λ c d. quiet (started t a b) START c refl (deaths-same t _ (fixed-started (λ s. s .machines) fixed-machines t a b) (alive-started t a b));
         done = λ c d. quiet (finished t a) DONE c refl (deaths-same t _ (fixed-finished (λ s. s .machines) fixed-machines t a) (alive-finished t a));
         die = λ c d. rw (eq-eqb (codeOf e) DIE c) (deaths-died t a w d);
-        notice = λ c d. quiet (noticed t a b) NOTICE c refl (deaths-same t _ (fixed-noticed (λ s. s .machines) fixed-machines t a b)
-            (λ m. alive-noticed t (w .sized) a b m (machine-16 t w a (d .machine))));
+        notice = λ c d. quiet (noticed t a b) NOTICE c refl (deaths-same t _ (fixed-noticed (λ s. s .machines) fixed-machines t a b) (alive-noticed t a b));
       })
 
 pub deaths-run : (t : Table) (es : List (List ℕ)) → Whole t → deaths (runOf t es) ≡ deaths t + countOf kills t es

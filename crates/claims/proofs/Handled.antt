@@ -32,7 +32,7 @@ use Rattle.claims.proofs.Change.Change.{pricing, late, other}
 
 unwritten : (j : ℕ) (v : Job) → Local (λ n u. jobAt u j ≡ v)
 unwritten j v = record {
-  node = λ n t m w p. job-node t m w j ∙ p;
+  node = λ n t m w e p. job-node t m w j ∙ p;
   pool = λ n t m i r p. job-pool t m i r j ∙ p;
   send = λ t x p. job-send t x j ∙ p;
   less = λ t p. p;

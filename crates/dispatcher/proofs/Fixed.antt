@@ -53,20 +53,22 @@ module _ {A : Type 0} (f : Table → A) (h : Fixed f) where
   fixed-closed : (a : A) → Closed (Is a)
   unfolding sift send push
   fixed-closed a = record {
-    local = record {
-      node = λ n t m v p. h .node t m v ∙ p;
-      pool = λ n t m j r p. h .pool t m j r ∙ p;
-      send = λ t x p. cond-elim (Is a 0) (eqb (nodeAt t (x .to) .alive) 1) _ t (h .messages t _ _ ∙ p) p;
-      less = λ t p. p;
+    handling = record {
+      local = record {
+        node = λ n t m v e p. h .node t m v ∙ p;
+        pool = λ n t m j r p. h .pool t m j r ∙ p;
+        send = λ t x p. cond-elim (Is a 0) (eqb (nodeAt t (x .to) .alive) 1) _ t (h .messages t _ _ ∙ p) p;
+        less = λ t p. p;
+      };
+      job = λ n t j v p. h .job t j v ∙ p;
     };
-    job = λ n t j v p. h .job t j v ∙ p;
     told = λ t m d r p. h .told t m d r ∙ p;
     sift = λ t q p. h .messages t _ _ ∙ p;
   }
 
   module _ (t : Table) where
     pub fixed-handle : (x : Message) → f (handle t x) ≡ f t
-    fixed-handle x = closed-handle (Is (f t)) (fixed-closed (f t)) t x refl
+    fixed-handle x = closed-handle (Is (f t)) (fixed-closed (f t) .handling) t x refl
 
     pub fixed-admitted : (a : ℕ) → f (admitted t a) ≡ f t
     fixed-admitted a = closed-admitted (Is (f t)) (fixed-closed (f t)) t a refl
@@ -85,7 +87,7 @@ module _ {A : Type 0} (f : Table → A) (h : Fixed f) where
     fixed-finished a = closed-finished (Is (f t)) (fixed-closed (f t)) t a refl
 
     pub fixed-died : (a : ℕ) → f (died t a) ≡ f t
-    fixed-died a = closed-died (Is (f t)) (fixed-closed (f t)) t a refl
+    fixed-died a = closed-died (Is (f t)) (fixed-closed (f t)) t a (λ u p. h .node u a _ ∙ p) refl
 
     pub fixed-noticed : (a b : ℕ) → f (noticed t a b) ≡ f t
     fixed-noticed a b = closed-noticed (Is (f t)) (fixed-closed (f t)) t a b refl

@@ -12,20 +12,21 @@ use Rattle.table.specs.declared.Table.{Table}
 use Rattle.table.specs.Views.{noMessage, nodeAt, toldAt, messageAt, flight}
 use Rattle.table.specs.Messages.{pull}
 use Rattle.table.specs.Parts.{accept}
-use Rattle.table.proofs.Views.{views, length-flight}
+use Rattle.table.proofs.Views.{length-flight}
 use Rattle.table.proofs.Messages.{flight-pull, message-flight}
 use Rattle.events.specs.Events.{delivered}
 use Rattle.lists.specs.Scan.{without}
 use Rattle.lists.proofs.Cases.{byEq}
 use Rattle.invariant.proofs.State.{Whole}
 use Rattle.invariant.proofs.Hand.{hand}
+use Rattle.invariant.proofs.Alive.{alive-delivered, told-delivered}
 use Rattle.dispatcher.proofs.Fixed.{fixed-machines, fixed-delivered}
 use Rattle.dispatcher.specs.Codes.{DELIVER}
 use Rattle.dispatcher.specs.Step.{event, stepOf}
 use Rattle.drain.proofs.Reach.{Reach, reach-here, reach-step}
 use Rattle.drain.proofs.Steps.{accepts-deliver}
 use Rattle.drain.proofs.Kept.{kept}
-use Rattle.drain.proofs.Weights.{weight, weightOf, weight-range, weight-most, Lighter, lighter}
+use Rattle.drain.proofs.Weights.{weight, weightOf, weight-range, weight-most, lighter}
 
 -- the root was told of every dead machine
 abbrev pub Informed : Table → Type 0
@@ -57,18 +58,13 @@ module _ (t : Table) (w : Whole t) (h : 0 < t .«in_flight») where
       let n = length-flight t (w .sized) in
       rw (flight-pull t (w .sized) 0 h, ← message-flight t (w .sized) 0 h) (weight-first (flight t) (omega arith))
 
-  handled : Lighter (pull t 0) (messageAt t 0) (delivered t 0)
-  unfolding delivered
-  handled = lighter (pull t 0) (messageAt t 0) (hand t 0 w h)
-
   next-lighter : weight (flight (delivered t 0)) < weight (flight t)
-  next-lighter = omega (arith, first-weight, handled .weighs)
+  unfolding delivered
+  next-lighter = omega (arith, first-weight, lighter (pull t 0) (messageAt t 0) (hand t 0 w h))
 
   next-informed : Informed t → Informed (delivered t 0)
-  unfolding pull
   next-informed =
-      informed-same t (delivered t 0) (fixed-delivered (λ v. v .machines) fixed-machines t 0)
-      (λ m. handled .alive m ∙ simp views) (λ m d. handled .told m d ∙ simp views)
+      informed-same t (delivered t 0) (fixed-delivered (λ v. v .machines) fixed-machines t 0) (alive-delivered t 0) (told-delivered t 0)
 
 deliveries : (n : ℕ) (t : Table) → Whole t → Informed t → weight (flight t) ≤ n → Reach Quiet t n
 deliveries zero t w i h =

@@ -61,7 +61,7 @@ one k t kl h =
       whole = kept t u (event NOTICE 0 b) w step;
       told = λ d l m g. byEq d b
           (λ q. rw (q, told-noticed t b w (omega arith)) (λ z. omega arith))
-          (λ q. rw (told-noticed-other t b w d (omega arith) (omega arith) q) (h .told d (omega arith) (omega arith) (λ a. g (alive-noticed t (h .whole .sized) 0 b d (omega arith) ∙ a))));
+          (λ q. rw (told-noticed-other t b w d (omega arith) (omega arith) q) (h .told d (omega arith) (omega arith) (λ a. g (alive-noticed t 0 b d ∙ a))));
     })))
     (λ e. here (λ d q l g. rw q e))))
     (λ c. let out : t .machines ≤ b = ltb-false b (t .machines) c in here (λ d q l. absurd (omega arith)))

@@ -1,4 +1,4 @@
--- What a handler sends weighs less than the message it handles, and it changes neither who lives nor who was told of whom.
+-- What a handler sends weighs less than the message it handles.
 -- Weights: FISH 5, REQ 4, AUTH 3, DENIED, OBSOLETE and SCHEDULE 2, ACK, NOWORK and RESULT 1.
 -- Assumes nothing.
 use mathlib.Core.Path.{_≡_, ap, _∙_}
@@ -14,13 +14,12 @@ use Rattle.table.specs.declared.Table.{Table}
 use Rattle.table.specs.Views.{jobAt, nodeAt, poolAt, toldAt, flight, withJob, withNode, withPool, enter}
 use Rattle.table.specs.Messages.{push, send, RoomFor, lowest}
 use Rattle.table.specs.Parts.{moved, placed, priced, reserve, release, waiting, reserves, returned, message, FISH, REQ, AUTH, DENIED, OBSOLETE, SCHEDULE, ACK, NOWORK, RESULT}
-use Rattle.table.proofs.Views.{views}
 use Rattle.table.proofs.Messages.{flight-push}
 use Rattle.victim_handlers.specs.VictimHandlers.{noWork, grant, onFish, onAuth, onDenied, onObsolete}
 use Rattle.thief_handlers.specs.ThiefHandlers.{onSchedule, onNoWork}
 use Rattle.root_handlers.specs.RootHandlers.{reply, onReq, onAck, onResult}
 use Rattle.handlers.specs.Handlers.{handle}
-use Rattle.lists.proofs.Cases.{byBool}
+use Rattle.lists.proofs.Cases.{byBool, cond-elim}
 use Rattle.invariant.proofs.State.{Hand}
 use Rattle.invariant.proofs.Frame.{Frame, frame-refl, frame-job, frame-pool, frame-node, frame-room, frame-enter, frame-returned}
 use Rattle.invariant.proofs.About.{alive-reserve, alive-release, alive-waiting}
@@ -54,36 +53,30 @@ weight-most (x ∷ xs) = omega (arith, weight-most xs, weight-range (x .kind) .1
 -- ---- after a handler
 
 -- the messages of u weigh at most w more than those of s
-pub record Sent (w : ℕ) (s u : Table) : Type 0 where
-  pub weighs : weight (flight u) ≤ w + weight (flight s)
-  pub told : (m d : ℕ) → toldAt u m d ≡ toldAt s m d
-  pub alive : (m : ℕ) → nodeAt u m .alive ≡ nodeAt s m .alive
+abbrev Sent : ℕ → Table → Table → Type 0
+Sent w s u = weight (flight u) ≤ w + weight (flight s)
 
--- u is the table after x was handled on s
-pub record Lighter (s : Table) (x : Message) (u : Table) : Type 0 where
-  pub weighs : weight (flight u) < weightOf (x .kind) + weight (flight s)
-  pub told : (m d : ℕ) → toldAt u m d ≡ toldAt s m d
-  pub alive : (m : ℕ) → nodeAt u m .alive ≡ nodeAt s m .alive
+-- u is the table after x was handled on s: they weigh less than those of s and x
+abbrev Lighter : Table → Message → Table → Type 0
+Lighter s x u = weight (flight u) < weightOf (x .kind) + weight (flight s)
 
 -- nothing is sent
 quiet : (w : ℕ) (s u : Table) → Frame s u → Sent w s u
-quiet w s u f = record { weighs = rw (f .flight) (omega arith); told = f .told; alive = f .alive }
+quiet w s u f = rw (f .flight) (omega arith)
 
 -- a message is sent
 sent : (w : ℕ) (s u : Table) (y : Message) → Frame s u → RoomFor s (y .to) → weightOf (y .kind) ≤ w → Sent w s (send u y)
-unfolding send push
+unfolding send
 sent w s u y f room h =
-    let fl : nodeAt u (y .to) .alive ≡ 1 → flight (push u y) ≡ flight s ++ y ∷ [] =
-    λ e. flight-push u (f .sized) y (frame-room s u f (y .to) room e) ∙ ap (λ (l : List Message). l ++ y ∷ []) (f .flight) in
     byBool (eqb (nodeAt u (y .to) .alive) 1)
-    (λ e. rw (e, send) (record {
-      weighs = rw (fl (eqb-true _ 1 e)) (omega (arith, weight-append (flight s) y));
-      told = simp views (f .told); alive = simp views (f .alive);
-    }))
+    (λ e.
+    let fl : flight (push u y) ≡ flight s ++ y ∷ [] =
+    flight-push u (f .sized) y (frame-room s u f (y .to) room (eqb-true _ 1 e)) ∙ ap (λ (l : List Message). l ++ y ∷ []) (f .flight) in
+    rw (e, send, fl) (omega (arith, weight-append (flight s) y)))
     (λ e. rw (e, send) (quiet w s u f))
 
 either : (b : Bool) (w : ℕ) (s u v : Table) → Sent w s u → Sent w s v → Sent w s (cond b u v)
-either b w s u v p q = byBool b (λ e. rw e p) (λ e. rw e q)
+either b w s u v = cond-elim (Sent w s) b u v
 
 module _ (s : Table) (x : Message) (h : Hand s x) where
   own : Frame s s
@@ -175,7 +168,7 @@ module _ (s : Table) (x : Message) (h : Hand s x) where
 
   -- what is sent weighs less than the message handled
   less : (w k : ℕ) (u : Table) → x .kind ≡ k → w < weightOf k → Sent w s u → Lighter s x u
-  less w k u e l r = record { weighs = rw e (omega (arith, r .weighs)); told = r .told; alive = r .alive }
+  less w k u e l r = rw e (omega (arith, r))
 
   pub lighter : Lighter s x (handle s x)
   unfolding weightOf

@@ -1,59 +1,81 @@
--- Who lives after each event but Die and Deliver: whoever did before.
+-- Who lives and who was told of whom: a handler changes neither, and no event but Die changes who lives.
 -- Assumes nothing.
-use Prim.Native.Nat.{ℕ, _+_, _<_}
-use mathlib.Core.Path.{_≡_, ap, _∙_}
+use Prim.Native.Nat.{ℕ}
+use mathlib.Core.Path.{_≡_, refl, _∙_}
 use lib.Dec.{eqb}
-use Rattle.lists.proofs.Cases.{byEq}
-use Rattle.table.specs.declared.Machine.{Machine}
-use Rattle.table.specs.declared.Message.{Message}
+use Rattle.lists.proofs.Cases.{cond-elim}
 use Rattle.table.specs.declared.Table.{Table}
-use Rattle.table.specs.Views.{nodeAt, poolAt, withNode, withPool}
-use Rattle.table.specs.Messages.{send}
-use Rattle.table.specs.Parts.{running}
-use Rattle.table.proofs.Views.{Sized, views, alive-node, node-messages}
-use Rattle.events.specs.Events.{admitted}
+use Rattle.table.specs.Views.{nodeAt, toldAt}
+use Rattle.table.specs.Messages.{push, pull, sift, send}
+use Rattle.table.proofs.Views.{views, alive-node}
+use Rattle.events.specs.Events.{admitted, delivered}
 use Rattle.steal.specs.Steal.{stolen}
 use Rattle.work.specs.Work.{started, finished}
-use Rattle.notice.specs.Notice.{quieted, reissue, noticed}
-use Rattle.invariant.proofs.Flight.{view-either, view-send}
-use Rattle.invariant.proofs.Frame.{node-enter}
-use Rattle.invariant.proofs.About.{alive-waiting, alive-running}
-use Rattle.invariant.proofs.Quieted.{node-quieted, node-quieted-other}
-use Rattle.invariant.proofs.Reissued.{node-reissue}
-use Rattle.invariant.proofs.ConservedNotice.{alive-quieted}
+use Rattle.notice.specs.Notice.{noticed}
+use Rattle.preservation.proofs.Closed.{Handling, Closed, closed-handle, closed-admitted, closed-stolen, closed-delivered, closed-started}
+use Rattle.preservation.proofs.Closed.{closed-finished, closed-noticed}
 
 module _ (t : Table) where
-  pub alive-admitted : (a m : ℕ) → nodeAt (admitted t a) m .alive ≡ nodeAt t m .alive
-  unfolding admitted
-  alive-admitted a m = simp (views, node-enter)
+  -- ---- who lives
 
-  -- machine a's record is new, and a message is sent
-  alive-sent : (a : ℕ) (v : Machine) (x : Message) → v .alive ≡ nodeAt t a .alive
-      → (m : ℕ) → nodeAt (send (withNode t a v) x) m .alive ≡ nodeAt t m .alive
-  alive-sent a v x e m =
-      let u = withNode t a v in
-      ap (λ (n : Machine). n .alive) (view-send (λ s. nodeAt s m) u x (λ n k. node-messages u n k m)) ∙ alive-node t a v e m
+  abbrev Lives : ℕ → Table → Type 0
+  Lives n u = (m : ℕ) → nodeAt u m .alive ≡ nodeAt t m .alive
+
+  lives : Closed Lives
+  unfolding sift send push
+  lives = record {
+    handling = record {
+      local = record {
+        node = λ n u m v e p k. alive-node u m v e k ∙ p k;
+        pool = λ n u m j r p k. simp views (p k);
+        send = λ u x p k. cond-elim (λ w. nodeAt w k .alive ≡ nodeAt t k .alive) (eqb (nodeAt u (x .to) .alive) 1) _ u (simp views (p k)) (p k);
+        less = λ u p. p;
+      };
+      job = λ n u j v p k. simp views (p k);
+    };
+    told = λ u m d r p k. simp views (p k);
+    sift = λ u q p k. simp views (p k);
+  }
+
+  same : Lives 0 t
+  same m = refl
+
+  pub alive-admitted : (a m : ℕ) → nodeAt (admitted t a) m .alive ≡ nodeAt t m .alive
+  alive-admitted a = closed-admitted Lives lives t a same
 
   pub alive-stolen : (a b m : ℕ) → nodeAt (stolen t a b) m .alive ≡ nodeAt t m .alive
-  unfolding stolen
-  alive-stolen a b = alive-sent a _ _ (alive-waiting (nodeAt t a) (b + 1))
+  alive-stolen a b = closed-stolen Lives lives t a b same
+
+  pub alive-delivered : (k m : ℕ) → nodeAt (delivered t k) m .alive ≡ nodeAt t m .alive
+  unfolding pull
+  alive-delivered k = closed-delivered Lives lives t k (λ m. simp views)
 
   pub alive-started : (a b m : ℕ) → nodeAt (started t a b) m .alive ≡ nodeAt t m .alive
-  unfolding started
-  alive-started a b m =
-      let q = alive-running (nodeAt t a) b (poolAt t a b) in
-      simp (alive-node (withPool t a b 0) a (running (nodeAt t a) b (poolAt t a b)) (simp views q) m, views)
+  alive-started a b = closed-started Lives lives t a b same
 
   pub alive-finished : (a m : ℕ) → nodeAt (finished t a) m .alive ≡ nodeAt t m .alive
-  unfolding finished
-  alive-finished a = alive-sent a _ _ (alive-running (nodeAt t a) 0 0)
+  alive-finished a = closed-finished Lives lives t a same
 
-  pub alive-noticed : Sized t → (a b m : ℕ) → a < 16 → nodeAt (noticed t a b) m .alive ≡ nodeAt t m .alive
-  unfolding noticed
-  alive-noticed z a b m l =
-      let q = quieted t a b in
-      let same : nodeAt q m .alive ≡ nodeAt t m .alive =
-      byEq m a
-      (λ e. rw e (ap (λ (n : Machine). n .alive) (node-quieted t a b z l) ∙ alive-quieted (nodeAt t a) b))
-      (λ e. ap (λ (n : Machine). n .alive) (node-quieted-other t a b m e)) in
-      view-either (λ u. nodeAt u m .alive) (eqb a 0) (reissue q b) q (nodeAt t m .alive) (ap (λ (n : Machine). n .alive) (node-reissue q b m) ∙ same) same
+  pub alive-noticed : (a b m : ℕ) → nodeAt (noticed t a b) m .alive ≡ nodeAt t m .alive
+  alive-noticed a b = closed-noticed Lives lives t a b same
+
+  -- ---- who was told of whom
+
+  abbrev Tells : ℕ → Table → Type 0
+  Tells n u = (m d : ℕ) → toldAt u m d ≡ toldAt t m d
+
+  tells : Handling Tells
+  unfolding send push
+  tells = record {
+    local = record {
+      node = λ n u m v e p k d. simp views (p k d);
+      pool = λ n u m j r p k d. simp views (p k d);
+      send = λ u x p k d. cond-elim (λ w. toldAt w k d ≡ toldAt t k d) (eqb (nodeAt u (x .to) .alive) 1) _ u (simp views (p k d)) (p k d);
+      less = λ u p. p;
+    };
+    job = λ n u j v p k d. simp views (p k d);
+  }
+
+  pub told-delivered : (k m d : ℕ) → toldAt (delivered t k) m d ≡ toldAt t m d
+  unfolding delivered pull
+  told-delivered k = closed-handle Tells tells _ _ (λ m d. simp views)

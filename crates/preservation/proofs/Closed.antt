@@ -1,6 +1,7 @@
 -- What every update of a table keeps, every handler and every accepted event keeps: the one walk through their definitions.
 -- Assumes nothing.
 use Prim.Native.Nat.{ℕ, _+_}
+use mathlib.Core.Path.{_≡_, refl}
 use mathlib.Core.Bool.{Bool, not, _&&_, _||_}
 use lib.Dec.{eqb, leb}
 use Rattle.lists.proofs.Cases.{cond-elim}
@@ -9,9 +10,10 @@ use Rattle.table.specs.declared.Job.{Job}
 use Rattle.table.specs.declared.Machine.{Machine}
 use Rattle.table.specs.declared.Message.{Message}
 use Rattle.table.specs.declared.Table.{Table}
-use Rattle.table.specs.Views.{noMachine, jobAt, nodeAt, toldAt, messageAt, withJob, withNode, withPool, withTold, enter}
+use Rattle.table.specs.Views.{noMachine, jobAt, nodeAt, poolAt, toldAt, messageAt, withJob, withNode, withPool, withTold, enter}
 use Rattle.table.specs.Messages.{pull, sift, send, lowest, notTo, notFrom}
-use Rattle.table.specs.Parts.{returned}
+use Rattle.table.specs.Parts.{reserve, release, running, waiting, returned}
+use Rattle.table.proofs.Views.{views}
 use Rattle.table.proofs.Wipe.{keeps-wipe}
 use Rattle.victim_handlers.specs.VictimHandlers.{noWork, grant, onFish, matches, onAuth, onDenied, onObsolete}
 use Rattle.thief_handlers.specs.ThiefHandlers.{onSchedule, onNoWork}
@@ -23,17 +25,22 @@ use Rattle.steal.specs.Steal.{stolen}
 use Rattle.work.specs.Work.{started, finished}
 use Rattle.notice.specs.Notice.{informed, unwaited, reclaimed, quieted, lost, reissueOne, reissue, noticed}
 
--- P n is kept by each update of machines and pools, and by sending: n is the number of slots that must be free, and a message that is sent takes one
+-- P n is kept by each update of pools and of machines that stay alive or dead, and by sending: n is the number of slots that must be free, and a message
+-- that is sent takes one
 pub record Local (P : ℕ → Table → Type 0) : Type 0 where
-  pub node : (n : ℕ) (t : Table) (m : ℕ) (v : Machine) → P n t → P n (withNode t m v)
+  pub node : (n : ℕ) (t : Table) (m : ℕ) (v : Machine) → v .alive ≡ nodeAt t m .alive → P n t → P n (withNode t m v)
   pub pool : (n : ℕ) (t : Table) (m j r : ℕ) → P n t → P n (withPool t m j r)
   pub send : (t : Table) (x : Message) → P 1 t → P 0 (send t x)
   pub less : (t : Table) → P 1 t → P 0 t
 
--- and by every other update
-pub record Closed (P : ℕ → Table → Type 0) : Type 0 where
+-- and by an update of a job: all that a handler does
+pub record Handling (P : ℕ → Table → Type 0) : Type 0 where
   pub local : Local P
   pub job : (n : ℕ) (t : Table) (j : ℕ) (v : Job) → P n t → P n (withJob t j v)
+
+-- and by what Notice does besides
+pub record Closed (P : ℕ → Table → Type 0) : Type 0 where
+  pub handling : Handling P
   pub told : (t : Table) (m d r : ℕ) → P 0 t → P 0 (withTold t m d r)
   pub sift : (t : Table) (p : Message → Bool) → P 0 t → P 0 (sift t p)
 
@@ -46,18 +53,33 @@ module _ (P : ℕ → Table → Type 0) (c : Local P) where
 
   pub closed-returned : (n : ℕ) (t : Table) (m : ℕ) → P n t → P n (returned t m)
   unfolding returned
-  closed-returned n t m p = c .node n _ m _ (closed-enter n t m _ _ p)
+  closed-returned n t m p =
+      let u = enter t m (nodeAt t m .«reserved_job») (nodeAt t m .«reserved_replica») in
+      c .node n u m (release (nodeAt t m)) (unfold release enter in simp views) (closed-enter n t m _ _ p)
+
+  closed-release : (n : ℕ) (t : Table) (m : ℕ) → P n t → P n (withNode t m (release (nodeAt t m)))
+  closed-release n t m p = c .node n t m (release (nodeAt t m)) (unfold release in refl) p
+
+  pub closed-waiting : (n : ℕ) (t : Table) (m w : ℕ) → P n t → P n (withNode t m (waiting (nodeAt t m) w))
+  closed-waiting n t m w p = c .node n t m (waiting (nodeAt t m) w) (unfold waiting in refl) p
+
+  pub closed-idle : (n : ℕ) (t : Table) (m : ℕ) → P n t → P n (withNode t m (running (nodeAt t m) 0 0))
+  closed-idle n t m p = c .node n t m (running (nodeAt t m) 0 0) (unfold running in refl) p
 
   module _ (t : Table) (x : Message) (p : P 1 t) where
     pub closed-fish : P 0 (onFish t x)
     unfolding onFish noWork grant
     closed-fish =
+        let b = x .to in
+        let j = lowest t b in
+        let v = reserve (nodeAt t b) j (poolAt t b j) (x .from) in
         cond-elim (P 0) (not (eqb (nodeAt t (x .to) .«reserved_replica») 0)) _ _ (c .send t _ p)
-        (cond-elim (P 0) (leb 64 (lowest t (x .to))) _ _ (c .send t _ p) (c .send _ _ (c .node 1 _ _ _ (c .pool 1 t _ _ 0 p))))
+        (cond-elim (P 0) (leb 64 (lowest t (x .to))) _ _ (c .send t _ p) 
+        (c .send _ _ (c .node 1 (withPool t b j 0) b v (unfold reserve in simp views) (c .pool 1 t b j 0 p))))
 
     pub closed-auth : P 0 (onAuth t x)
     unfolding onAuth
-    closed-auth = cond-elim (P 0) (matches t x) _ t (c .send _ _ (c .node 1 t _ _ p)) (c .less t p)
+    closed-auth = cond-elim (P 0) (matches t x) _ t (c .send _ _ (closed-release 1 t _ p)) (c .less t p)
 
     pub closed-denied : P 0 (onDenied t x)
     unfolding onDenied noWork
@@ -65,19 +87,21 @@ module _ (P : ℕ → Table → Type 0) (c : Local P) where
 
     pub closed-obsolete : P 0 (onObsolete t x)
     unfolding onObsolete noWork
-    closed-obsolete = cond-elim (P 0) (matches t x) _ t (c .send _ _ (c .node 1 t _ _ p)) (c .less t p)
+    closed-obsolete = cond-elim (P 0) (matches t x) _ t (c .send _ _ (closed-release 1 t _ p)) (c .less t p)
 
     pub closed-schedule : P 0 (onSchedule t x)
     unfolding onSchedule
-    closed-schedule = c .send _ _ (c .node 1 _ _ _ (closed-enter 1 t _ _ _ p))
+    closed-schedule =
+        let b = x .to in
+        c .send _ _ (c .node 1 (enter t b (x .job) (x .replica)) b (waiting (nodeAt t b) 0) (unfold waiting enter in simp views) (closed-enter 1 t _ _ _ p))
 
     pub closed-nowork : P 0 (onNoWork t x)
     unfolding onNoWork
-    closed-nowork = c .node 0 t _ _ (c .less t p)
+    closed-nowork = closed-waiting 0 t _ 0 (c .less t p)
 
 -- ---- what the root does, and all messages
 
-module _ (P : ℕ → Table → Type 0) (c : Closed P) where
+module _ (P : ℕ → Table → Type 0) (c : Handling P) where
   module _ (t : Table) (x : Message) (p : P 1 t) where
     rest : P 0 t
     rest = c .local .less t p
@@ -103,32 +127,41 @@ module _ (P : ℕ → Table → Type 0) (c : Closed P) where
         by-kind (P 0) t x (λ k. rest) (λ k. closed-fish P l t x p) (λ k. req) (λ k. closed-auth P l t x p) (λ k. closed-denied P l t x p)
         (λ k. closed-obsolete P l t x p) (λ k. closed-schedule P l t x p) (λ k. ack) (λ k. closed-nowork P l t x p) (λ k. result)
 
-  -- ---- the events: where one sends, a slot is free
+-- ---- the events: where one sends, a slot is free
+
+module _ (P : ℕ → Table → Type 0) (c : Closed P) where
+  abbrev h : Handling P
+  h = c .handling
+
+  abbrev l : Local P
+  l = c .handling .local
 
   module _ (t : Table) where
     pub closed-admitted : (a : ℕ) → P 0 t → P 0 (admitted t a)
     unfolding admitted
-    closed-admitted a p = closed-enter P (c .local) 0 _ 0 a 1 (c .job 0 t a _ p)
+    closed-admitted a p = closed-enter P l 0 _ 0 a 1 (h .job 0 t a _ p)
 
     pub closed-stolen : (a b : ℕ) → P 1 t → P 0 (stolen t a b)
     unfolding stolen
-    closed-stolen a b p = c .local .send _ _ (c .local .node 1 t a _ p)
+    closed-stolen a b p = l .send _ _ (closed-waiting P l 1 t a _ p)
 
     pub closed-delivered : (k : ℕ) → P 1 (pull t k) → P 0 (delivered t k)
     unfolding delivered
-    closed-delivered k p = closed-handle (pull t k) (messageAt t k) p
+    closed-delivered k p = closed-handle P h (pull t k) (messageAt t k) p
 
     pub closed-started : (a b : ℕ) → P 0 t → P 0 (started t a b)
     unfolding started
-    closed-started a b p = c .local .node 0 _ a _ (c .local .pool 0 t a b 0 p)
+    closed-started a b p =
+        l .node 0 (withPool t a b 0) a (running (nodeAt t a) b (poolAt t a b)) (unfold running in simp views) (l .pool 0 t a b 0 p)
 
     pub closed-finished : (a : ℕ) → P 1 t → P 0 (finished t a)
     unfolding finished
-    closed-finished a p = c .local .send _ _ (c .local .node 1 t a _ p)
+    closed-finished a p = l .send _ _ (closed-idle P l 1 t a p)
 
-    pub closed-died : (a : ℕ) → P 0 t → P 0 (died t a)
+    -- Die, where P is kept by a machine's record that is cleared
+    pub closed-died : (a : ℕ) → ((u : Table) → P 0 u → P 0 (withNode u a noMachine)) → P 0 t → P 0 (died t a)
     unfolding died
-    closed-died a p = c .sift _ (notTo a) (c .local .node 0 _ a noMachine (keeps-wipe t a (P 0) (λ u j. c .local .pool 0 u a j 0) p))
+    closed-died a gone p = c .sift _ (notTo a) (gone _ (keeps-wipe t a (P 0) (λ u j. l .pool 0 u a j 0) p))
 
     pub closed-informed : (a b : ℕ) → P 0 t → P 0 (informed t a b)
     unfolding informed
@@ -136,17 +169,17 @@ module _ (P : ℕ → Table → Type 0) (c : Closed P) where
 
     pub closed-unwaited : (a b : ℕ) → P 0 t → P 0 (unwaited t a b)
     unfolding unwaited
-    closed-unwaited a b p = cond-elim (P 0) (eqb (nodeAt t a .waits) (b + 1)) _ t (c .local .node 0 t a _ p) p
+    closed-unwaited a b p = cond-elim (P 0) (eqb (nodeAt t a .waits) (b + 1)) _ t (closed-waiting P l 0 t a 0 p) p
 
     pub closed-reclaimed : (a b : ℕ) → P 0 t → P 0 (reclaimed t a b)
     unfolding reclaimed
     closed-reclaimed a b p =
         cond-elim (P 0) (not (eqb (nodeAt t a .«reserved_replica») 0) && eqb (nodeAt t a .«reserved_thief») b) _ t
-        (closed-returned P (c .local) 0 t a p) p
+        (closed-returned P l 0 t a p) p
 
     pub closed-reissueOne : (v : Job) (b j : ℕ) → P 0 t → P 0 (reissueOne v b j t)
     unfolding reissueOne
-    closed-reissueOne v b j p = cond-elim (P 0) (lost v b) _ t (closed-enter P (c .local) 0 _ 0 j _ (c .job 0 t j _ p)) p
+    closed-reissueOne v b j p = cond-elim (P 0) (lost v b) _ t (closed-enter P l 0 _ 0 j _ (h .job 0 t j _ p)) p
 
   module _ (t : Table) where
     pub closed-quieted : (a b : ℕ) → P 0 t → P 0 (quieted t a b)

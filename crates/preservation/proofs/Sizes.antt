@@ -21,13 +21,15 @@ Free n t = Sized t × (t .«in_flight» + n ≤ 128)
 
 free : Closed Free
 free = record {
-  local = record {
-    node = λ n t m v p. (sized-node t m v (p .0), simp views (p .1));
-    pool = λ n t m j r p. (sized-pool t m j r (p .0), simp views (p .1));
-    send = λ t x p. let s = sized-send t (p .0) x (λ e. omega (arith, p .1)) in (s, omega (arith, s .used));
-    less = λ t p. (p .0, omega (arith, p .1));
+  handling = record {
+    local = record {
+      node = λ n t m v e p. (sized-node t m v (p .0), simp views (p .1));
+      pool = λ n t m j r p. (sized-pool t m j r (p .0), simp views (p .1));
+      send = λ t x p. let s = sized-send t (p .0) x (λ e. omega (arith, p .1)) in (s, omega (arith, s .used));
+      less = λ t p. (p .0, omega (arith, p .1));
+    };
+    job = λ n t j v p. (sized-job t j v (p .0), simp views (p .1));
   };
-  job = λ n t j v p. (sized-job t j v (p .0), simp views (p .1));
   told = λ t m d r p. (sized-told t m d r (p .0), simp views (p .1));
   sift = λ t f p. let s = sized-sift t (p .0) f in (s, omega (arith, s .used));
 }
@@ -58,7 +60,7 @@ module _ (t : Table) (s : Sized t) where
   sized-started a b = closed-started Free free t a b some .0
 
   pub sized-died : (a : ℕ) → Sized (died t a)
-  sized-died a = closed-died Free free t a some .0
+  sized-died a = closed-died Free free t a (λ u p. (sized-node u a _ (p .0), simp views (p .1))) some .0
 
   pub sized-informed : (a b : ℕ) → Sized (informed t a b)
   sized-informed a b = closed-informed Free free t a b some .0
@@ -76,7 +78,7 @@ module _ (t : Table) (s : Sized t) where
   sized-noticed a b = closed-noticed Free free t a b some .0
 
 pub sized-enter : (t : Table) (m j r : ℕ) → Sized t → Sized (enter t m j r)
-sized-enter t m j r s = closed-enter Free (free .local) 0 t m j r (some t s) .0
+sized-enter t m j r s = closed-enter Free (free .handling .local) 0 t m j r (some t s) .0
 
 pub sized-returned : (t : Table) (m : ℕ) → Sized t → Sized (returned t m)
-sized-returned t m s = closed-returned Free (free .local) 0 t m (some t s) .0
+sized-returned t m s = closed-returned Free (free .handling .local) 0 t m (some t s) .0
