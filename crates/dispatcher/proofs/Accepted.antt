@@ -21,9 +21,9 @@ use Rattle.work.proofs.Cases.{Starting, Finishing, by-start, by-done}
 use Rattle.notice.specs.Notice.{noticed, noticeOf}
 use Rattle.notice.proofs.Cases.{Noticing, by-notice}
 use Rattle.dispatcher.proofs.Events.{by-form, answer-number}
-use Rattle.dispatcher.proofs.Numbers.{entry-in, start-in, pair-in}
+use Rattle.dispatcher.proofs.Numbers.{entry-in, start-in, machines-in}
 use Rattle.dispatcher.specs.Codes.{ADMIT, STEAL, DELIVER, START, DONE, DIE, NOTICE}
-use Rattle.dispatcher.specs.Step.{codeOf, firstOf, secondOf, pair, formed, numbered, eventOf, answerOf}
+use Rattle.dispatcher.specs.Step.{codeOf, firstOf, secondOf, twoMachines, formed, numbered, eventOf, answerOf}
 
 module _ (t : Table) (e : List ℕ) where
   pub answer-refused : answerOf t e .number ≢ 0 → refuse (answerOf t e .number) t ≡ answerOf t e
@@ -49,8 +49,8 @@ module _ (t : Table) (code a b : ℕ) (g : numbered t code a b ≡ true) (z : ev
       let y = accepted t D u o by (ap (λ (w : Answer). w .number) (sym q) ∙ z) in
       (y .0, ap (λ (w : Answer). w .table) (y .1 ∙ sym q))
 
-  two : (n : ℕ) → code ≡ n → pair n ≡ true → (a < t .machines) × (b < t .machines)
-  two n e y = pair-in t code a b g (ap (λ (k : ℕ). pair k) e ∙ y)
+  two : (n : ℕ) → code ≡ n → twoMachines n ≡ true → (a < t .machines) × (b < t .machines)
+  two n e y = machines-in t code a b g (ap (λ (k : ℕ). twoMachines k) e ∙ y)
 
   pub table-admit : code ≡ ADMIT → Admitting t a × (admitted t a ≡ eventOf t code a b .table)
   unfolding eventOf

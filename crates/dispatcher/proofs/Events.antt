@@ -25,9 +25,9 @@ use Rattle.work.specs.Work.{started, finished}
 use Rattle.work.proofs.Cases.{Starting, Finishing, by-start, by-done}
 use Rattle.notice.specs.Notice.{noticed}
 use Rattle.notice.proofs.Cases.{Noticing, by-notice}
-use Rattle.dispatcher.proofs.Numbers.{entry-in, start-in, pair-in}
+use Rattle.dispatcher.proofs.Numbers.{entry-in, start-in, machines-in}
 use Rattle.dispatcher.specs.Codes.{ADMIT, STEAL, DELIVER, START, DONE, DIE, NOTICE}
-use Rattle.dispatcher.specs.Step.{codeOf, firstOf, secondOf, pair, formed, numbered, eventOf, answerOf, stepOf}
+use Rattle.dispatcher.specs.Step.{codeOf, firstOf, secondOf, twoMachines, formed, numbered, eventOf, answerOf, stepOf}
 
 -- ---- an accepted event, by its code: the one list of the events
 
@@ -73,7 +73,7 @@ module _ (P : Answer → Type 0) (t : Table) (e : List ℕ)
       let c = codeOf e in
       let a = firstOf e in
       let b = secondOf e in
-      let two : (n : ℕ) → eqb c n ≡ true → pair n ≡ true → (a < t .machines) × (b < t .machines) = λ n x y. pair-in t c a b g (ap (λ (k : ℕ). pair k) (eqb-true c n x) ∙ y) in
+      let two : (n : ℕ) → eqb c n ≡ true → twoMachines n ≡ true → (a < t .machines) × (b < t .machines) = λ n x y. machines-in t c a b g (ap (λ (k : ℕ). twoMachines k) (eqb-true c n x) ∙ y) in
       byBool (eqb c ADMIT) (λ x. rw (x, eventOf) (by-admit t a (entry-in t c a b g (eqb-true c ADMIT x)) P refused (arms .admit (eqb-true c ADMIT x))))
       (λ x1. byBool (eqb c STEAL) (λ x. let p = two STEAL x refl in rw (x1, x, eventOf) (by-steal t a b (p .0) (p .1) P refused (arms .steal (eqb-true c STEAL x))))
       (λ x2. byBool (eqb c DELIVER) (λ x. rw (x1, x2, x, eventOf) (by-deliver t a b P refused (arms .deliver (eqb-true c DELIVER x))))

@@ -10,15 +10,15 @@ use Rattle.lists.proofs.Cases.{and-left, and-right}
 use Rattle.table.specs.declared.Table.{Table}
 use Rattle.messages.specs.Needs.{Ready}
 use Rattle.dispatcher.specs.Codes.{ADMIT, START}
-use Rattle.dispatcher.specs.Step.{pair, numbered}
+use Rattle.dispatcher.specs.Step.{twoMachines, numbered}
 
 both : (a b m n : ℕ) → ltb a m && ltb b n ≡ true → (a < m) × (b < n)
 both a b m n h = (ltb-true a m (and-left (ltb a m) (ltb b n) h), ltb-true b n (and-right (ltb a m) (ltb b n) h))
 
 module _ (t : Table) (code a b : ℕ) (g : numbered t code a b ≡ true) where
-  pub pair-in : pair code ≡ true → (a < t .machines) × (b < t .machines)
+  pub machines-in : twoMachines code ≡ true → (a < t .machines) × (b < t .machines)
   unfolding numbered
-  pair-in e = both a b (t .machines) (t .machines) (rw e at g)
+  machines-in e = both a b (t .machines) (t .machines) (rw e at g)
 
   pub entry-in : code ≡ ADMIT → a < t .entries
   unfolding numbered
@@ -30,8 +30,8 @@ module _ (t : Table) (code a b : ℕ) (g : numbered t code a b ≡ true) where
 
 -- so its numbers are within the arrays
 module _ (t : Table) (r : Ready t) (code a b : ℕ) (g : numbered t code a b ≡ true) where
-  pub pair-below : pair code ≡ true → (a < 16) × (b < 16)
-  pair-below e = let h = pair-in t code a b g e in (omega (arith, h .0, r .machines), omega (arith, h .1, r .machines))
+  pub machines-below : twoMachines code ≡ true → (a < 16) × (b < 16)
+  machines-below e = let h = machines-in t code a b g e in (omega (arith, h .0, r .machines), omega (arith, h .1, r .machines))
 
   pub entry-below : code ≡ ADMIT → a < 64
   entry-below e = let h = entry-in t code a b g e in omega (arith, r .entries)

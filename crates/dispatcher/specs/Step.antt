@@ -40,13 +40,13 @@ unfoldable pub formed : List ℕ → Bool
 formed e = leb 3 (length e) && leb 1 (codeOf e) && leb (codeOf e) lastCode && (usesSecond (codeOf e) || eqb (secondOf e) 0)
 
 -- Steal, Deliver, Done, Die and Notice: a and b are machine numbers; an unused b is 0 here, and machine 0 is there
-abbrev pub pair : ℕ → Bool
-pair code = eqb code STEAL || eqb code DELIVER || eqb code DONE || eqb code DIE || eqb code NOTICE
+abbrev pub twoMachines : ℕ → Bool
+twoMachines code = eqb code STEAL || eqb code DELIVER || eqb code DONE || eqb code DIE || eqb code NOTICE
 
 -- "machine or entry number too large": the contrary. Admit's a and Start's b are entry numbers
 unfoldable pub numbered : Table → ℕ → ℕ → ℕ → Bool
 numbered t code a b =
-    cond (pair code) (ltb a (t .machines) && ltb b (t .machines))
+    cond (twoMachines code) (ltb a (t .machines) && ltb b (t .machines))
     (cond (eqb code ADMIT) (ltb a (t .entries))
     (cond (eqb code START) (ltb a (t .machines) && ltb b (t .entries))
     true))

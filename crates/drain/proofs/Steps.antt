@@ -19,7 +19,7 @@ use Rattle.preservation.proofs.Ok.{passes}
 use Rattle.invariant.proofs.State.{Whole}
 use Rattle.invariant.proofs.Flight.{every-taken}
 use Rattle.dispatcher.specs.Codes.{DELIVER, START, DONE, NOTICE}
-use Rattle.dispatcher.specs.Step.{event, pair, formed, numbered, eventOf, answerOf, stepOf}
+use Rattle.dispatcher.specs.Step.{event, twoMachines, formed, numbered, eventOf, answerOf, stepOf}
 use Rattle.dispatcher.proofs.Kept.{step-answer}
 
 module _ (t : Table) (w : Whole t) where
@@ -28,7 +28,7 @@ module _ (t : Table) (w : Whole t) where
   unfolding answerOf
   step-event c a b f n = step-answer t (event c a b) (passes t (w .sized) (w .ok)) ∙ rw (f, n)
 
-  two-machines : (c a b : ℕ) → pair c ≡ true → a < t .machines → b < t .machines → numbered t c a b ≡ true
+  two-machines : (c a b : ℕ) → twoMachines c ≡ true → a < t .machines → b < t .machines → numbered t c a b ≡ true
   unfolding numbered
   two-machines c a b p al bl = rw (p, lt-ltb a (t .machines) al, lt-ltb b (t .machines) bl)
 

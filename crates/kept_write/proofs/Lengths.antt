@@ -15,7 +15,7 @@ use Rattle.table.specs.declared.Table.{Table}
 use Rattle.table.proofs.Long.{Long}
 use Rattle.table.specs.Views.{noJob, noMachine, noMessage, pastBond}
 use Rattle.kept_read.specs.Layout.{bondSize, jobSize, machineSize, messageSize, tableSize}
-use Rattle.kept_write.specs.Bytes.{entriesSize, fleetSize, flightSize, bytes16, bytes32, bytes64, caseOf, couponBits, yieldBits, bondBytes}
+use Rattle.kept_write.specs.Bytes.{entriesSize, machineStateSize, flightSize, bytes16, bytes32, bytes64, caseOf, couponBits, yieldBits, bondBytes}
 use Rattle.kept_write.specs.Bytes.{jobBytes}
 use Rattle.kept_write.specs.Bytes.{machineBytes, messageBytes, bondsBytes, jobsBytes, machinesBytes, messagesBytes, entriesBytes, fleetBytes}
 use Rattle.kept_write.specs.Bytes.{flightBytes, bytesOf}
@@ -93,7 +93,7 @@ pub length-entries : (t : Table) → length (entriesBytes t) ≡ entriesSize
 unfolding entriesBytes
 length-entries t = simp length-append (omega (arith, length-bonds (t .bonds), length-jobs (t .jobs)))
 
-pub length-fleet : (t : Table) → Long t → length (fleetBytes t) ≡ fleetSize
+pub length-fleet : (t : Table) → Long t → length (fleetBytes t) ≡ machineStateSize
 unfolding fleetBytes
 length-fleet t l = simp length-append (omega (arith, length-machines (t .nodes)))
 
@@ -172,7 +172,7 @@ module _ {d : List ℕ} {at : ℕ} {e : List ℕ} {m : ℕ} {f : List ℕ} {r : 
     written-entries t p q s h = then-two p q s (omega (arith, length-entries t))
 
     pub written-fleet : (t : Table) → Written d at (machinesBytes (t .nodes)) e m → Written e m (t .told) f r → Written f r (t .pools) g k → Long t
-        → at + fleetSize ≤ length d → Written d at (fleetBytes t) g k
+        → at + machineStateSize ≤ length d → Written d at (fleetBytes t) g k
     unfolding fleetBytes
     written-fleet t p q s l h = then-two p q s (omega (arith, length-fleet t l))
 

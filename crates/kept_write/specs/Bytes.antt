@@ -85,8 +85,8 @@ entriesSize = machinesStart
 unfoldable pub fleetBytes : Table → List ℕ
 fleetBytes t = machinesBytes (t .nodes) ++ t .told ++ t .pools
 
-abbrev pub fleetSize : ℕ
-fleetSize = 16 * machineSize + 256 + 1024
+abbrev pub machineStateSize : ℕ
+machineStateSize = 16 * machineSize + 256 + 1024
 
 -- how many messages are in flight, and the messages
 unfoldable pub flightBytes : Table → List ℕ

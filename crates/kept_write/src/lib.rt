@@ -4,7 +4,7 @@ ghost use Prim.Native.Nat.{_+_, _*_, _≤_};
 ghost use lib.ListN.{length};
 ghost use Rattle.text.specs.Text.{Written};
 ghost use Rattle.kept_read.specs.Layout.{bondSize, jobSize, machineSize, messageSize, tableSize};
-ghost use Rattle.kept_write.specs.Bytes.{entriesSize, fleetSize, flightSize, bytes16, bytes32, bytes64, caseOf, couponBits, yieldBits};
+ghost use Rattle.kept_write.specs.Bytes.{entriesSize, machineStateSize, flightSize, bytes16, bytes32, bytes64, caseOf, couponBits, yieldBits};
 ghost use Rattle.kept_write.specs.Bytes.{bondBytes, jobBytes};
 ghost use Rattle.kept_write.specs.Bytes.{machineBytes, messageBytes, bondsBytes, jobsBytes, machinesBytes, messagesBytes, entriesBytes};
 ghost use Rattle.kept_write.specs.Bytes.{fleetBytes, flightBytes, bytesOf};
@@ -202,9 +202,9 @@ fn put_entries(out: &mut [u8], at: usize, t: Table) -> usize
 
 // The machines, what each was told and its pool.
 fn put_fleet(out: &mut [u8], at: usize, t: Table) -> usize
-    requires { ⌜ at + fleetSize ≤ length (now out) ⌝ }
+    requires { ⌜ at + machineStateSize ≤ length (now out) ⌝ }
     ensures { λ r. ⌜ Written (now (out .entry)) at (fleetBytes t) (now (out .exit)) r ⌝ }
-    ensures { λ r. ⌜ r ≡ at + fleetSize ⌝ }
+    ensures { λ r. ⌜ r ≡ at + machineStateSize ⌝ }
 {
     let machines = t.nodes;
     let told = t.told;

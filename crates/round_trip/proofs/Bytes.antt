@@ -23,7 +23,7 @@ use Rattle.kept_read.specs.Layout.{bondSize, jobSize, machineSize, messageSize,
 use Rattle.kept_read.specs.Layout.{usedStart, messagesStart, tableSize, bondStart, jobStart, machineStart, messageStart, bondFrom, jobFrom}
 use Rattle.kept_read.specs.Layout.{machineFrom, messageFrom, bondsFrom, jobsFrom, machinesFrom, toldFrom, poolsFrom, messagesFrom, tableFrom}
 use Rattle.kept_read.specs.Layout.{termsFormed, formed}
-use Rattle.kept_write.specs.Bytes.{entriesSize, fleetSize, flightSize, bondBytes, jobBytes, machineBytes, messageBytes, bondsBytes, jobsBytes}
+use Rattle.kept_write.specs.Bytes.{entriesSize, machineStateSize, flightSize, bondBytes, jobBytes, machineBytes, messageBytes, bondsBytes, jobsBytes}
 use Rattle.kept_write.specs.Bytes.{machinesBytes, messagesBytes, entriesBytes, fleetBytes, flightBytes, bytesOf}
 use Rattle.kept.proofs.Answers.{formed-length}
 use Rattle.round_trip.specs.Again.{AreBytes}
@@ -107,7 +107,7 @@ module _ (s : List ℕ) (small : AreBytes s) (l : length s ≡ tableSize) where
     unfolding entriesBytes tableFrom
     entries-part = both s 0 jobsStart (64 * jobSize) (both s 0 bondsStart (64 * bondSize) counts-part bonds-part) jobs-part
 
-    fleet-part : fleetBytes (tableFrom s) ≡ part s machinesStart fleetSize
+    fleet-part : fleetBytes (tableFrom s) ≡ part s machinesStart machineStateSize
     unfolding fleetBytes tableFrom
     fleet-part = both s machinesStart (16 * machineSize + 256) 1024 (both s machinesStart (16 * machineSize) 256 machines-part told-part) pools-part
 
@@ -118,7 +118,7 @@ module _ (s : List ℕ) (small : AreBytes s) (l : length s ≡ tableSize) where
     whole-part : bytesOf (tableFrom s) ≡ s
     unfolding bytesOf
     whole-part =
-        both s 0 usedStart flightSize (both s 0 entriesSize fleetSize entries-part fleet-part) flight-part ∙ take-all tableSize s (omega arith)
+        both s 0 usedStart flightSize (both s 0 entriesSize machineStateSize entries-part fleet-part) flight-part ∙ take-all tableSize s (omega arith)
 
 -- the form of bytes is their length and the case of each entry
 cases : (s : List ℕ) → formed s ≡ true → all (λ i. termsFormed s (bondStart i)) 64 ≡ true

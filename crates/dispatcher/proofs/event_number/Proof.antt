@@ -4,8 +4,8 @@ use borrow.Author.Needs.{needs}
 use Prim.Native.Nat.{ℕ}
 use mathlib.Core.Path.{ap}
 use Rattle.lists.proofs.Rules.{flags}
-use Rattle.dispatcher.proofs.Numbers.{entry-below, pair-below, start-below}
-use Rattle.dispatcher.specs.Step.{pair, eventOf}
+use Rattle.dispatcher.proofs.Numbers.{entry-below, machines-below, start-below}
+use Rattle.dispatcher.specs.Step.{twoMachines, eventOf}
 use Rattle.dispatcher.proofs.event_number.Statement.{statement}
 use Rattle.dispatcher.proofs.event_number.Tie as tie
 
@@ -17,7 +17,7 @@ unfolding eventOf
 returns c = search flags
 
 steal-number-requires : tie.Need-steal-number-requires
-steal-number-requires c κs = let p = c .before .before .pre in pair-below _ (p .0) _ _ _ (p .1) (ap (λ (k : ℕ). pair k) (c .if2 .taken))
+steal-number-requires c κs = let p = c .before .before .pre in machines-below _ (p .0) _ _ _ (p .1) (ap (λ (k : ℕ). twoMachines k) (c .if2 .taken))
 
 returns-2 : tie.Need-returns-2
 unfolding eventOf
@@ -38,21 +38,21 @@ unfolding eventOf
 returns-4 c = search flags
 
 done-number-requires : tie.Need-done-number-requires
-done-number-requires c κs = let p = c .before .before .before .before .before .pre in pair-below _ (p .0) _ _ _ (p .1) (ap (λ (k : ℕ). pair k) (c .if5 .taken)) .0
+done-number-requires c κs = let p = c .before .before .before .before .before .pre in machines-below _ (p .0) _ _ _ (p .1) (ap (λ (k : ℕ). twoMachines k) (c .if5 .taken)) .0
 
 returns-5 : tie.Need-returns-5
 unfolding eventOf
 returns-5 c = search flags
 
 die-number-requires : tie.Need-die-number-requires
-die-number-requires c κs = let p = c .before .before .before .before .before .before .pre in pair-below _ (p .0) _ _ _ (p .1) (ap (λ (k : ℕ). pair k) (c .if6 .taken)) .0
+die-number-requires c κs = let p = c .before .before .before .before .before .before .pre in machines-below _ (p .0) _ _ _ (p .1) (ap (λ (k : ℕ). twoMachines k) (c .if6 .taken)) .0
 
 returns-6 : tie.Need-returns-6
 unfolding eventOf
 returns-6 c = search flags
 
 notice-number-requires : tie.Need-notice-number-requires
-notice-number-requires c κs = let p = c .before .before .before .before .before .before .before .pre in pair-below _ (p .0) _ _ _ (p .1) (ap (λ (k : ℕ). pair k) (c .if7 .taken))
+notice-number-requires c κs = let p = c .before .before .before .before .before .before .before .pre in machines-below _ (p .0) _ _ _ (p .1) (ap (λ (k : ℕ). twoMachines k) (c .if7 .taken))
 
 returns-7 : tie.Need-returns-7
 unfolding eventOf

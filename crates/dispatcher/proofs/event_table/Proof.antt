@@ -4,8 +4,8 @@ use Prim.Native.Nat.{ℕ}
 use mathlib.Core.Path.{ap, _∙_}
 use Rattle.lists.proofs.Rules.{flags}
 use Rattle.dispatcher.proofs.Accepted.{table-admit, table-steal, table-deliver, table-start, table-done, table-die, table-notice}
-use Rattle.dispatcher.proofs.Numbers.{entry-below, pair-below, start-below}
-use Rattle.dispatcher.specs.Step.{pair, eventOf}
+use Rattle.dispatcher.proofs.Numbers.{entry-below, machines-below, start-below}
+use Rattle.dispatcher.specs.Step.{twoMachines, eventOf}
 use Rattle.dispatcher.proofs.event_table.Statement.{statement}
 use Rattle.dispatcher.proofs.event_table.Tie as tie
 
@@ -16,7 +16,7 @@ returns : tie.Need-returns
 returns c = let p = c .before .before .pre in c .admitted .ensures ∙ table-admit _ _ _ _ (p .1 .0) (p .1 .1) (c .before .if1 .taken) .1
 
 stolen-requires : tie.Need-stolen-requires
-stolen-requires c κs = let p = c .before .before .pre in (pair-below _ (p .0) _ _ _ (p .1 .0) (ap (λ (k : ℕ). pair k) (c .if2 .taken)), table-steal _ _ _ _ (p .1 .0) (p .1 .1) (c .if2 .taken) .0 .room)
+stolen-requires c κs = let p = c .before .before .pre in (machines-below _ (p .0) _ _ _ (p .1 .0) (ap (λ (k : ℕ). twoMachines k) (c .if2 .taken)), table-steal _ _ _ _ (p .1 .0) (p .1 .1) (c .if2 .taken) .0 .room)
 
 returns-2 : tie.Need-returns-2
 returns-2 c = let p = c .before .before .before .pre in c .stolen .ensures ∙ table-steal _ _ _ _ (p .1 .0) (p .1 .1) (c .before .if2 .taken) .1
@@ -34,13 +34,13 @@ returns-4 : tie.Need-returns-4
 returns-4 c = let p = c .before .before .before .before .before .pre in c .started .ensures ∙ table-start _ _ _ _ (p .1 .0) (p .1 .1) (c .before .if4 .taken) .1
 
 finished-requires : tie.Need-finished-requires
-finished-requires c κs = let p = c .before .before .before .before .before .pre in let a = pair-below _ (p .0) _ _ _ (p .1 .0) (ap (λ (k : ℕ). pair k) (c .if5 .taken)) .0 in ((a, p .0 .running _ a), table-done _ _ _ _ (p .1 .0) (p .1 .1) (c .if5 .taken) .0 .room)
+finished-requires c κs = let p = c .before .before .before .before .before .pre in let a = machines-below _ (p .0) _ _ _ (p .1 .0) (ap (λ (k : ℕ). twoMachines k) (c .if5 .taken)) .0 in ((a, p .0 .running _ a), table-done _ _ _ _ (p .1 .0) (p .1 .1) (c .if5 .taken) .0 .room)
 
 returns-5 : tie.Need-returns-5
 returns-5 c = let p = c .before .before .before .before .before .before .pre in c .finished .ensures ∙ table-done _ _ _ _ (p .1 .0) (p .1 .1) (c .before .if5 .taken) .1
 
 died-requires : tie.Need-died-requires
-died-requires c κs = let p = c .before .before .before .before .before .before .pre in (pair-below _ (p .0) _ _ _ (p .1 .0) (ap (λ (k : ℕ). pair k) (c .if6 .taken)) .0, p .0 .flight)
+died-requires c κs = let p = c .before .before .before .before .before .before .pre in (machines-below _ (p .0) _ _ _ (p .1 .0) (ap (λ (k : ℕ). twoMachines k) (c .if6 .taken)) .0, p .0 .flight)
 
 returns-6 : tie.Need-returns-6
 returns-6 c = let p = c .before .before .before .before .before .before .before .pre in c .died .ensures ∙ table-die _ _ _ _ (p .1 .0) (p .1 .1) (c .before .if6 .taken) .1
