@@ -1,15 +1,14 @@
--- What `same` says of the rests of two lists, and that it is equality. Assumes nothing.
-use mathlib.Core.Path.{_≡_, refl, sym, ap, _∙_}
-use mathlib.Core.Bool.{true, false, _&&_, true≢false}
+-- What `same` says of the rests of two lists, and of a list and itself. Assumes nothing.
+use mathlib.Core.Path.{_≡_, refl, ap, _∙_}
+use mathlib.Core.Bool.{true, false}
 use mathlib.Core.List.{List, [], _∷_}
 use Prim.Native.Nat.{ℕ, suc, _+_, _<_}
-use native.Mathlib.Nat.{suc-inj}
 use native.Mathlib.Numerals.{add-one}
-use borrow.Author.Tests.{eq-eqb, ne-eqb, eqb-true}
+use borrow.Author.Tests.{eq-eqb, ne-eqb}
 use lib.Dec.{eqb}
 use lib.ListN.{length, drop, getD}
 use lib.Seq.{drop-cons}
-use Rattle.lists.proofs.Cases.{and-false, and-left, and-right}
+use Rattle.lists.proofs.Cases.{and-false}
 use Rattle.book.specs.Book.{same}
 
 pub differ-in-length : (a b : List ℕ) → (length a ≡ length b → ⊥) → same a b ≡ false
@@ -34,17 +33,6 @@ module _ (a b : List ℕ) (i : ℕ) (h : i < length a) (k : i < length b) where
   pub differ : (getD a i 0 ≡ getD b i 0 → ⊥) → same (drop i a) (drop i b) ≡ false
   unfolding same
   differ e = cut ∙ simp (ne-eqb _ _ e)
-
--- what is the same is equal, and what is equal is the same
-pub same-equal : (a b : List ℕ) → same a b ≡ true → a ≡ b
-unfolding same
-same-equal [] [] e = refl
-same-equal [] (y ∷ ys) e = absurd (true≢false (sym e))
-same-equal (x ∷ xs) [] e = absurd (true≢false (sym e))
-same-equal (x ∷ xs) (y ∷ ys) e =
-    let h : x ≡ y = eqb-true x y (and-left (eqb x y) (same xs ys) e) in
-    let t : xs ≡ ys = same-equal xs ys (and-right (eqb x y) (same xs ys) e) in
-    rw (h, t)
 
 pub same-itself : (a : List ℕ) → same a a ≡ true
 unfolding same

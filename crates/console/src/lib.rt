@@ -68,7 +68,7 @@ fn print_from(book: &[u8], events: &[u8], out: &mut [u8])
 pub fn print_page() {
     let mut book = [0u8; 1989];
     let n = load(b"book.bin", &mut book);
-    let mut events = [0u8; 60000];
+    let mut events = [0u8; page::BYTES_MOST];
     let m = load(b"events.bin", &mut events);
     let mut out = [0u8; page::LONGEST];
     print_from(&book[..n], &events[..m], &mut out);

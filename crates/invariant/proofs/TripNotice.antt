@@ -5,7 +5,7 @@ use mathlib.Core.Path.{_≡_, refl, ap, _∙_}
 use mathlib.Core.Logic.{_≢_}
 use mathlib.Core.Bool.{true, not, _&&_}
 use mathlib.Core.List.{List}
-use Prim.Native.Nat.{ℕ, zero, suc, _+_, _≤_, _<_}
+use Prim.Native.Nat.{ℕ, suc, _+_, _≤_, _<_}
 use native.Mathlib.Omega.{arith}
 use lib.Dec.{eqb}
 use borrow.Author.Tests.{ne-eqb}
@@ -19,8 +19,9 @@ use Rattle.table.proofs.Views.{Sized, views, sized-job, job-other, pool-node, a
 use Rattle.notice.specs.Notice.{informed, unwaited, reclaimed, quieted, lost, reissueOne, reissue, noticed}
 use Rattle.notice.proofs.Cases.{Noticing}
 use Rattle.preservation.proofs.Sizes.{sized-enter, sized-informed, sized-quieted}
-use Rattle.lists.specs.Scan.{filter, upTo}
+use Rattle.lists.specs.Scan.{filter}
 use Rattle.lists.proofs.Cases.{byBool}
+use Rattle.lists.proofs.Keeps.{up-each}
 use Rattle.invariant.proofs.Frame.{frame-returned, job-enter, entered}
 use Rattle.invariant.proofs.About.{alive-waiting}
 use Rattle.invariant.proofs.Quieted.{flight-quieted}
@@ -90,9 +91,6 @@ module _ (t : Table) (a b : ℕ) (w : Whole t) (al : a < 16) (gone : nodeAt t b 
 
 -- ---- the root issues the lost jobs again, one after the other; t is the table before the first
 module _ (t : Table) (b : ℕ) (z : Sized t) (l : List Message) (g : Trip t l) where
-  abbrev turns : ℕ → Table
-  turns n = upTo (λ j u. reissueOne (jobAt t j) b j u) n t
-
   -- after n turns
   record Turn (n : ℕ) (u : Table) : Type 0 where
     sized : Sized u
@@ -112,14 +110,9 @@ module _ (t : Table) (b : ℕ) (z : Sized t) (l : List Message) (g : Trip t l) w
       }))
       (λ e. rw (e, reissueOne) (record { sized = s .sized; later = λ k kl. s .later k (omega arith); trip = s .trip }))
 
-  all-turns : (n : ℕ) → n ≤ 64 → Turn n (turns n)
-  unfolding upTo
-  all-turns zero h = record { sized = z; later = λ k kl. refl; trip = g }
-  all-turns (suc n) h = one n (turns n) (omega arith) (all-turns n (omega arith))
-
   trip-reissue : Trip (reissue t b) l
   unfolding reissue
-  trip-reissue = all-turns 64 (omega arith) .trip
+  trip-reissue = up-each (λ j u. reissueOne (jobAt t j) b j u) Turn 64 one t (record { sized = z; later = λ k kl. refl; trip = g }) .trip
 
 pub trip-noticed : (t : Table) → Whole t → (a b : ℕ) → Noticing t a b → Trips (noticed t a b)
 unfolding noticed

@@ -25,9 +25,9 @@ use Rattle.opening.specs.Opening.{openOf}
 use Rattle.opening.proofs.Counts as counts
 use Rattle.dispatcher.specs.Step.{runOf, answersOf}
 use Rattle.dispatcher.proofs.Kept.{run-ok, run-sized}
-use Rattle.run.specs.Run.{eventAt, eventCount, eventsIn, refusals}
+use Rattle.run.specs.Run.{bytesMost, refusalsMost, eventAt, eventCount, eventsIn, refusals}
 use Rattle.run.proofs.Turns.{refusals-most}
-use Rattle.page.specs.Page.{eventsOf, entriesText, runText, textFrom, pageOf, refusalsMost, entriesMost, longest}
+use Rattle.page.specs.Page.{eventsOf, entriesText, runText, textFrom, pageOf, entriesMost, longest}
 use Rattle.opening.proofs.Shown.{opened-number}
 use Rattle.fresh.proofs.Passes.{opened-passes, opened-sized}
 use Rattle.page.proofs.Opened.{number-small}
@@ -61,14 +61,15 @@ module _ (book : List ℕ) (t : Table) (s : Sized t) (h : tableOk t ≡ true) wh
 
 -- ---- the events
 
-pub listed-most : (t : Table) (s : List ℕ) → length s ≤ 60000 → length (refusals 1 (answersOf t (eventsIn s))) ≤ refusalsMost
+pub listed-most : (t : Table) (s : List ℕ) → length s ≤ bytesMost → length (refusals 1 (answersOf t (eventsIn s))) ≤ refusalsMost
 unfolding eventsIn
 listed-most t s h =
     omega (arith, refusals-most 1 t (eventsIn s), length-tabulate (eventAt s) 0 [] (eventCount s))
 
 -- ---- the page
 
-pub run-most : (book : List ℕ) (t : Table) (s : List ℕ) → Sized t → tableOk t ≡ true → length s ≤ 60000 → length (textFrom book t (eventsIn s)) ≤ longest
+pub run-most : (book : List ℕ) (t : Table) (s : List ℕ) → Sized t → tableOk t ≡ true → length s ≤ bytesMost
+    → length (textFrom book t (eventsIn s)) ≤ longest
 unfolding runText
 run-most book t s z h l =
     let es = eventsIn s in
@@ -85,6 +86,6 @@ page-most book events =
     byBool (eqb (openOf book .number) 0)
     (λ e.
     let v : bookVerdict book ≡ 0 = sym (opened-number book) ∙ eqb-true _ _ e in
-    let l : length (take 60000 events) ≤ 60000 = omega (arith, length-take 60000 events) in
-    rw (e, pageOf) (run-most book (openOf book .table) (take 60000 events) (opened-sized book v) (opened-passes book v) l))
+    let l : length (take bytesMost events) ≤ bytesMost = omega (arith, length-take bytesMost events) in
+    rw (e, pageOf) (run-most book (openOf book .table) (take bytesMost events) (opened-sized book v) (opened-passes book v) l))
     (λ e. let m = book-most (openOf book .number) (omega (arith, number-small book)) in rw (e, pageOf) (omega arith))

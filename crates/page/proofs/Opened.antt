@@ -1,10 +1,11 @@
 -- What opening a book gives the page: a number of one digit. Assumes nothing.
 use Prim.Native.Nat.{ℕ, _+_, _*_, _%_, _≤_}
-use mathlib.Core.Bool.{Bool, true, false, not, cond}
+use mathlib.Core.Bool.{not}
 use mathlib.Core.List.{List}
 use native.Mathlib.Omega.{arith}
 use lib.Dec.{eqb, ltb}
 use lib.ListN.{length}
+use Rattle.lists.proofs.Cases.{cond-elim}
 use Rattle.isin.specs.Isin.{formed, total, verdictOf}
 use Rattle.term.specs.Term.{termOf, termNumber}
 use Rattle.term.specs.declared.Reading.{Reading}
@@ -15,13 +16,11 @@ use Rattle.opening.proofs.Shown.{opened-number}
 
 -- ---- the numbers of a book
 
-either : (b : Bool) (x y : ℕ) → x ≤ 7 → y ≤ 7 → cond b x y ≤ 7
-either true x y p q = p
-either false x y p q = q
-
 identifier-small : (s : List ℕ) → verdictOf s ≤ 7
 unfolding verdictOf
-identifier-small s = either (not (formed s)) 4 _ (omega arith) (either (eqb (total s % 10) 0) 0 5 (omega arith) (omega arith))
+identifier-small s =
+    cond-elim (λ n. n ≤ 7) (not (formed s)) 4 _ (omega arith)
+    (cond-elim (λ n. n ≤ 7) (eqb (total s % 10) 0) 0 5 (omega arith) (omega arith))
 
 term-small : (r : Reading) → termNumber r ≤ 7
 term-small Faulty = omega arith
@@ -30,19 +29,19 @@ term-small (Valid b) = omega arith
 fault-small : (s : List ℕ) (n i : ℕ) → faultAt s n i ≤ 7
 unfolding faultAt
 fault-small s n i =
-    either (not (eqb (verdictOf (identifierAt s i)) 0)) (verdictOf (identifierAt s i)) _ (identifier-small (identifierAt s i))
-    (either (repeated s i) 6 (termNumber (termOf (termAt s n i))) (omega arith) (term-small (termOf (termAt s n i))))
+    cond-elim (λ n. n ≤ 7) (not (eqb (verdictOf (identifierAt s i)) 0)) (verdictOf (identifierAt s i)) _ (identifier-small (identifierAt s i))
+    (cond-elim (λ n. n ≤ 7) (repeated s i) 6 (termNumber (termOf (termAt s n i))) (omega arith) (term-small (termOf (termAt s n i))))
 
 lowest-small : (s : List ℕ) (n : ℕ) → lowestFault s n ≤ 7
 unfolding lowestFault
-lowest-small s n = either (ltb (lowestFaulty s n) n) (faultAt s n (lowestFaulty s n)) 0 (fault-small s n (lowestFaulty s n)) (omega arith)
+lowest-small s n = cond-elim (λ n. n ≤ 7) (ltb (lowestFaulty s n) n) _ 0 (fault-small s n (lowestFaulty s n)) (omega arith)
 
 pub verdict-small : (s : List ℕ) → bookVerdict s ≤ 7
 unfolding bookVerdict
 verdict-small s =
-    either (ltb (length s) 4) 1 _ (omega arith)
-    (either (not (sizesInRange (machinesOf s) (entriesOf s))) 2 _ (omega arith)
-    (either (not (eqb (length s) (4 + 31 * entriesOf s))) 3 (lowestFault s (entriesOf s)) (omega arith) (lowest-small s (entriesOf s))))
+    cond-elim (λ n. n ≤ 7) (ltb (length s) 4) 1 _ (omega arith)
+    (cond-elim (λ n. n ≤ 7) (not (sizesInRange (machinesOf s) (entriesOf s))) 2 _ (omega arith)
+    (cond-elim (λ n. n ≤ 7) (not (eqb (length s) (4 + 31 * entriesOf s))) 3 _ (omega arith) (lowest-small s (entriesOf s))))
 
 -- ---- opening it
 

@@ -21,7 +21,7 @@ use Rattle.opening.specs.Opening.{freshOf, openOf}
 use Rattle.opening.proofs.Shown.{opened-number, opened-table}
 use Rattle.dispatcher.specs.Step.{runOf, answersOf}
 use Rattle.run.specs.declared.Ran.{Ran}
-use Rattle.run.specs.Run.{eventsIn, refusals, Listed}
+use Rattle.run.specs.Run.{bytesMost, eventsIn, refusals, Listed}
 use Rattle.page.specs.Page.{eventsOf, entriesText, runText, textFrom, pageOf, longest, bufferOf, printedOf}
 use Rattle.page.proofs.Longest.{lineOf, page-most}
 
@@ -60,7 +60,8 @@ module _ (book events : List ℕ) {d : List ℕ} {e : List ℕ} {r : ℕ} (n : �
       let m = q ∙ sym (opened-number book) in
       rw (ne-eqb (openOf book .number) 0 (λ z. h (m ∙ z)), pageOf) (rw m at w)
 
-  pub accepted-written : (t : Table) (s : List ℕ) → n ≡ 0 → t ≡ freshOf book → s ≡ take 60000 events → Written d 0 (textFrom book t (eventsIn s)) e r
+  pub accepted-written : (t : Table) (s : List ℕ) → n ≡ 0 → t ≡ freshOf book → s ≡ take bytesMost events
+      → Written d 0 (textFrom book t (eventsIn s)) e r
       → Written d 0 (pageOf book events) e r
   unfolding pageOf eventsOf
   accepted-written t s h f g w =
@@ -68,8 +69,8 @@ module _ (book events : List ℕ) {d : List ℕ} {e : List ℕ} {r : ℕ} (n : �
       rw (eq-eqb (openOf book .number) 0 (opened-number book ∙ v), pageOf) (rw (g, f ∙ sym (opened-table book v)) at w)
 
 -- all bytes, where there are fewer than 60,000
-pub few-bytes : (s : List ℕ) → length s < 60000 → take (length s - 0) s ≡ take 60000 s
-few-bytes s h = take-all (length s - 0) s (omega arith) ∙ sym (take-all 60000 s (omega arith))
+pub few-bytes : (s : List ℕ) → length s < bytesMost → take (length s - 0) s ≡ take bytesMost s
+few-bytes s h = take-all (length s - 0) s (omega arith) ∙ sym (take-all bytesMost s (omega arith))
 
 -- the line of an entry, whose identifier is that part of the book
 pub line-written : (book : List ℕ) (t : Table) (i : ℕ) (identifier : List ℕ) {e : List ℕ} {m : ℕ} {f : List ℕ} {r : ℕ} → identifier ≡ identifierOf book i

@@ -13,12 +13,12 @@ use Rattle.table.specs.Views.{jobAt}
 use Rattle.opening.specs.Opening.{openOf}
 use Rattle.dispatcher.specs.Step.{runOf, answersOf}
 use Rattle.claims.specs.Claims.{Demand3}
-use Rattle.run.specs.Run.{eventsIn, refusals}
+use Rattle.run.specs.Run.{bytesMost, refusalsMost, eventsIn, refusals}
 use Rattle.page.specs.declared.Printed.{Printed}
 
 -- "events.bin (at most 60,000 bytes; later ones are not read)"
 unfoldable pub eventsOf : List ℕ → List (List ℕ)
-eventsOf file = eventsIn (take 60000 file)
+eventsOf file = eventsIn (take bytesMost file)
 
 -- "Then each entry prints a line": by the table that the run ended with
 unfoldable pub entriesText : List ℕ → Table → List ℕ
@@ -38,10 +38,6 @@ unfoldable pub pageOf : List ℕ → List ℕ → List ℕ
 pageOf book events =
     cond (eqb (openOf book .number) 0) (textFrom book (openOf book .table) (eventsOf events))
     (bookRefused (openOf book .number))
-
--- the lines of 20,000 refused events, at most 23 bytes each
-abbrev pub refusalsMost : ℕ
-refusalsMost = 20000 * 23
 
 -- the lines of 64 entries, at most 48 bytes each
 abbrev pub entriesMost : ℕ

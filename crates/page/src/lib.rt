@@ -6,9 +6,12 @@ ghost use lib.ListN.{length, take};
 ghost use Rattle.text.specs.Text.{Written};
 ghost use Rattle.book.specs.Book.{bookVerdict};
 ghost use Rattle.validity.specs.Validity.{tableOk};
-ghost use Rattle.run.specs.Run.{eventsIn};
+ghost use Rattle.run.specs.Run.{bytesMost, eventsIn};
 ghost use Rattle.page.specs.Page.{eventsOf, entriesText, textFrom, pageOf, entriesMost, longest, bufferOf, printedOf, Reported};
 use table::Table;
+
+// Of a list of events no more bytes count.
+pub const BYTES_MOST: usize = 60000;
 
 // No page is longer: the lines of 20,000 refused events and of 64 entries.
 pub const LONGEST: usize = 20000 * 23 + 64 * 48;
@@ -39,7 +42,7 @@ fn put_entries(book: &[u8], t: Table, out: &mut [u8], at: usize) -> usize
 // The page of an accepted book, whose fresh table is t.
 fn put_run(book: &[u8], t: Table, events: &[u8], out: &mut [u8]) -> usize
     requires { ⌜ tableOk t ≡ true ⌝ }
-    requires { ⌜ (length (now events) ≤ 60000) × (longest ≤ length (now out)) ⌝ }
+    requires { ⌜ (length (now events) ≤ bytesMost) × (longest ≤ length (now out)) ⌝ }
     ensures { λ r. ⌜ Written (now (out .entry)) 0 (textFrom (now (book .entry)) t (eventsIn (now (events .entry)))) (now (out .exit)) r ⌝ }
 {
     let ran = run::run(t, events, out);
@@ -48,14 +51,14 @@ fn put_run(book: &[u8], t: Table, events: &[u8], out: &mut [u8]) -> usize
     put_entries(book, u, out, at)
 }
 
-// At most 60,000 bytes count.
+// The bytes that count.
 fn first_bytes(events: &[u8]) -> &[u8]
-    ensures { λ r. ⌜ now r ≡ take 60000 (now (events .entry)) ⌝ }
+    ensures { λ r. ⌜ now r ≡ take bytesMost (now (events .entry)) ⌝ }
 {
-    if events.len() < 60000 {
+    if events.len() < BYTES_MOST {
         return &events[0..];
     }
-    &events[0..60000]
+    &events[0..BYTES_MOST]
 }
 
 // Writes the page of a book and a list of events to the front of the buffer, which is refused and left unchanged where it is shorter than LONGEST. What is

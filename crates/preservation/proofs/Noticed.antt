@@ -1,13 +1,13 @@
 -- Check 9 through Notice: what every machine does, then the root's jobs, whose replica numbers were at most the bound before it rose by one.
 -- Assumes nothing.
-use Prim.Native.Nat.{ℕ, zero, suc, _+_, _≤_, _<_}
+use Prim.Native.Nat.{ℕ, suc, _+_, _<_}
 use mathlib.Core.Path.{_≡_, refl, sym, ap, _∙_, subst}
 use mathlib.Core.Bool.{true, not, _&&_, _||_}
 use native.Mathlib.Omega.{arith}
 use borrow.Author.Tests.{eqb-true, eqb-false, not-true}
 use lib.Dec.{eqb}
-use Rattle.lists.specs.Scan.{upTo}
 use Rattle.lists.proofs.Cases.{byBool, and-left}
+use Rattle.lists.proofs.Keeps.{up-each}
 use Rattle.table.specs.declared.Table.{Table}
 use Rattle.table.specs.declared.Job.{Job}
 use Rattle.table.specs.declared.Machine.{Machine}
@@ -151,14 +151,11 @@ turn t u v b j c f =
     (λ e. rw (e, reissueOne) c)
 
 module _ (t : Table) (b : ℕ) (s : Sized t) (o : Ok t) (f : (j : ℕ) → j < 64 → lost (jobAt t j) b ≡ true → copyOk (t .entries) (bound t) j (jobAt t j .replica + 1) ≡ true) where
-  turns : (n : ℕ) → n ≤ 64 → Turn t (upTo (λ j u. reissueOne (jobAt t j) b j u) n t)
-  unfolding upTo
-  turns zero h = record { good = o; long = s; most = refl; size = refl }
-  turns (suc n) h = turn t (upTo (λ j u. reissueOne (jobAt t j) b j u) n t) (jobAt t n) b n (turns n (omega arith)) (f n (omega arith))
-
   pub ok-reissue : Ok (reissue t b)
   unfolding reissue
-  ok-reissue = turns 64 (omega arith) .good
+  ok-reissue =
+      up-each (λ j u. reissueOne (jobAt t j) b j u) (λ j. Turn t) 64 (λ j u h c. turn t u (jobAt t j) b j c (f j h)) t
+      (record { good = o; long = s; most = refl; size = refl }) .good
 
 -- ---- the root: it lives, and was not told of b before
 

@@ -151,22 +151,6 @@ small-div (fin true m e) (fin false n d) h w =
     (small-down (m * up e * down d) (n * up d * down e) (mul-pos (mul-pos (w .0) (up-pos d)) (down-pos e)) (cross-half (m * up e) (down e) (n * up d) (down d) h (w .1)))
 
 -- ---- what the range says
--- from -1/2 to 1: enough for every yield and every number of periods in a year to come
-pub small-of : (y : Float) → T (le (fin true 1 (negsuc 0)) y) → T (le y one) → Small y
-unfolding le
-small-of nan h k = absurd h
-small-of (inf true) h k = absurd h
-small-of (inf false) h k = absurd k
-small-of (fin false m e) h k = at-one (m * up e) (down e) (or-le (m * up e * 1) (1 * down e) k)
-small-of (fin true m e) h k = at-half (m * up e) (down e) (flip (m * up e * 2) (1 * down e) h)
-  where
-    flip : (b a : ℕ) → T (ltb b a || (eqb a b && true)) → b ≤ a
-    flip b a = go (ltb b a) (ltb→lt b a)
-      where
-        go : (t : Bool) → (T t → b < a) → T (t || (eqb a b && true)) → b ≤ a
-        go true h u = le-of-lt (h tt)
-        go false h u = le-of-eq (sym (eqb→eq a b (and-l (eqb a b) true u)))
-
 no-mantissa : (m u d : ℕ) → 0 < u → 0 * d ≡ m * u * 1 → m ≡ 0
 no-mantissa m u d U h = elim (eq-zero-or-pos m) [ inl z ↦ z | inr p ↦ absurd (clash (m * u) (mul-pos p U) (sym h ∙ zero-mul d)) ]
   where
@@ -233,15 +217,6 @@ div-calm (fin true m e) (fin false n d) h w =
 pub divisor-any : (y k : Float) → Small y → Whole k → T (positive (add binary64 one (div binary64 y k)))
 divisor-any y k h w = one-plus (div binary64 y k) (small-div y k h w)
 
--- 1, 2, 4 and 12 payments in a year
-pub whole-one : Whole (fin false 1 (pos 0))
-whole-one = (lit< tt, lit≤ tt)
-
+-- 2 payments in a year
 pub whole-two : Whole (fin false 1 (pos 1))
 whole-two = (lit< tt, lit≤ tt)
-
-pub whole-four : Whole (fin false 1 (pos 2))
-whole-four = (lit< tt, lit≤ tt)
-
-pub whole-twelve : Whole (fin false 3 (pos 2))
-whole-twelve = (lit< tt, lit≤ tt)

@@ -26,7 +26,7 @@ unfolding fixedAfter
 fixed-plus c d k h zero = tt
 fixed-plus c d k h (suc n) = div-plus _ d (add-plus _ c (fixed-plus c d k h n) k) h
 
--- the one place that knows the ends of the range of yields: from -1/2 on, `small-of` stands here
+-- the one place that knows the ends of the range of yields
 yield-small : (y : Float) → T (yieldInRange y) → Small y
 yield-small y h = small-from-zero y (calm-of y (and-l (le lowestYield y) (le y highestYield) h)) (and-r (le lowestYield y) (le y highestYield) h)
 

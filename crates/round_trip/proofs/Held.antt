@@ -1,7 +1,7 @@
 -- Which tables are held: that of any bytes, the fresh table of a book, and after an event what was held before it. Assumes nothing.
 use Prim.Native.Nat.{ℕ, _+_, _<_}
 use mathlib.Core.Path.{_≡_, sym, ap, _∙_, subst}
-use mathlib.Core.Bool.{Bool, true, false, cond}
+use mathlib.Core.Bool.{true}
 use mathlib.Core.List.{List}
 use native.Mathlib.Omega.{arith}
 use lib.Dec.{eqb, ltb}
@@ -9,7 +9,7 @@ use lib.Ieee.{binary64, fits}
 use lib.Ieee.Bits.{ofBits-fits}
 use lib.ListN.{length, getD}
 use Rattle.lists.specs.Scan.{tabulate}
-use Rattle.lists.proofs.Cases.{byBool}
+use Rattle.lists.proofs.Cases.{byBool, cond-elim}
 use Rattle.lists.proofs.Scans.{length-tabulate, length-pad, tabulate-at}
 use Rattle.endian.specs.Endian.{le64}
 use Rattle.pricer.specs.declared.Bond.{Bond}
@@ -74,26 +74,22 @@ rates-none = tt
 abbrev Fit : Reading → Type 0
 Fit r = RatesFit (bondIn r .terms)
 
-either : (b : Bool) (x y : Reading) → Fit x → Fit y → Fit (cond b x y)
-either true x y p q = p
-either false x y p q = q
-
 rates-checked : (b : Bond) → RatesFit (b .terms) → Fit (checked b)
 unfolding checked
-rates-checked b f = either (inRange b) (Valid b) Faulty f rates-none
+rates-checked b f = cond-elim Fit (inRange b) (Valid b) Faulty f rates-none
 
 rates-term : (k : ℕ) (b : Bond) (c y : ℕ) → Fit (termFrom k b c y)
 unfolding termFrom
 rates-term k b c y =
-    either (eqb k 1) _ _
-    (either (eqb c 0) _ Faulty (rates-checked (withTerms b (Zero (of y))) (ofBits-fits binary64 y)) rates-none)
-    (either (eqb k 2) _ Faulty (rates-checked (withTerms b (Fixed (of c) (of y))) (ofBits-fits binary64 c, ofBits-fits binary64 y)) rates-none)
+    cond-elim Fit (eqb k 1) _ _
+    (cond-elim Fit (eqb c 0) _ Faulty (rates-checked (withTerms b (Zero (of y))) (ofBits-fits binary64 y)) rates-none)
+    (cond-elim Fit (eqb k 2) _ Faulty (rates-checked (withTerms b (Fixed (of c) (of y))) (ofBits-fits binary64 c, ofBits-fits binary64 y)) rates-none)
 
 rates-of : (s : List ℕ) → Fit (termOf s)
 unfolding termOf
 rates-of s =
-    either (eqb (length s) 19) _ Faulty
-    (either (eqb (getD s 2 0) 0) _ Faulty (rates-term (getD s 0 0) (bareBond s) (le64 s 3) (le64 s 11)) rates-none) rates-none
+    cond-elim Fit (eqb (length s) 19) _ Faulty
+    (cond-elim Fit (eqb (getD s 2 0) 0) _ Faulty (rates-term (getD s 0 0) (bareBond s) (le64 s 3) (le64 s 11)) rates-none) rates-none
 
 rates-book : (s : List ℕ) (i : ℕ) → RatesFit (bondOf s i .terms)
 unfolding bondOf bondAt

@@ -15,6 +15,14 @@ use Rattle.run.specs.declared.Ran.{Ran}
 unfoldable pub eventAt : List ℕ → ℕ → List ℕ
 eventAt s k = take 3 (drop (3 * k) s)
 
+-- "events.bin (at most 60,000 bytes; later ones are not read)"
+abbrev pub bytesMost : ℕ
+bytesMost = 60000
+
+-- the lines of 20,000 refused events, at most 23 bytes each
+abbrev pub refusalsMost : ℕ
+refusalsMost = 20000 * 23
+
 -- how many events there are, one of too few bytes included
 abbrev pub eventCount : List ℕ → ℕ
 eventCount s = (length s + 2) / 3

@@ -5,7 +5,7 @@ ghost use Prim.Native.Nat.{_+_, _*_, _≤_, _<_};
 ghost use lib.ListN.{length};
 ghost use Rattle.validity.specs.Validity.{tableOk};
 ghost use Rattle.dispatcher.specs.Step.{runOf, answersOf};
-ghost use Rattle.run.specs.Run.{eventAt, eventsIn, refusals, Listed};
+ghost use Rattle.run.specs.Run.{bytesMost, refusalsMost, eventAt, eventsIn, refusals, Listed};
 use table::Table;
 
 // The table after the events, and the position after the lines written.
@@ -31,7 +31,7 @@ fn event_at(s: &[u8], k: usize) -> &[u8]
 // it is 0: a table handed back beside each number would be copied several times in every event.
 pub fn run(t: Table, s: &[u8], out: &mut [u8]) -> Ran
     requires { ⌜ tableOk t ≡ true ⌝ }
-    requires { ⌜ (length (now s) ≤ 60000) × (460000 ≤ length (now out)) ⌝ }
+    requires { ⌜ (length (now s) ≤ bytesMost) × (refusalsMost ≤ length (now out)) ⌝ }
     ensures { λ r. ⌜ Listed (now (out .entry)) 0 (refusals 1 (answersOf t (eventsIn (now (s .entry))))) (runOf t (eventsIn (now (s .entry)))) (now (out .exit)) r ⌝ }
 {
     let n = (s.len() + 2) / 3;

@@ -3,6 +3,7 @@ use mathlib.Core.Path.{ap, _∙_}
 use native.Mathlib.Omega.{arith}
 use lib.ListN.{length, length-take}
 use Rattle.validity.specs.Validity.{tableOk}
+use Rattle.run.specs.Run.{bytesMost}
 use Rattle.fresh.proofs.Passes.{fresh-passes}
 use Rattle.page.proofs.Opened.{verdict-small}
 use Rattle.page.proofs.Pages.{short-printed, short-buffer, page-printed, page-buffer, refused-written, accepted-written}
@@ -53,7 +54,7 @@ put-run-requires c κs =
     let v = c .before .before .before .before .verdict in
     let f = ap length (c .before .first-bytes .ensures) in (
       ap tableOk (c .before .before .fresh .ensures) ∙ fresh-passes (a .book .now) (omega (arith, v .ensures)),
-      (omega (arith, f, length-take 60000 (a .events .now)), omega arith),
+      (omega (arith, f, length-take bytesMost (a .events .now)), omega arith),
     )
 
 same-length-2 : tie.Need-same-length-2
