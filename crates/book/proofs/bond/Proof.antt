@@ -12,17 +12,8 @@ use Rattle.book.proofs.bond.Tie as tie
 below : (c : tie.Then1) → c .before .before .before .args .i < entryCount (now (c .before .before .before .args .s))
 below c = rw (c .before .entries .ensures) at (c .if1 .taken)
 
-entries-requires : tie.Need-entries-requires
-entries-requires c κs = search needs
-
-cast-n : tie.Need-cast-n
-cast-n c = search needs
-
 bond-at-requires : tie.Need-bond-at-requires
 bond-at-requires c κs = let b = below c in let k = counted _ _ b in let e = c .before .entries .ensures in (omega arith, (omega arith, omega arith))
-
-bond-in-requires : tie.Need-bond-in-requires
-bond-in-requires c κs = search needs
 
 returns : tie.Need-returns
 returns c = c .bond-at .ensures ∙ bond-counted _ _ _ (c .before .before .entries .ensures) (below (c .before))
@@ -33,4 +24,4 @@ returns-2 c = c .bond-in .ensures ∙ bond-past _ _ (rw (c .before .before .entr
 pub bond-spec : {M : Type 1} → statement M
 bond-spec =
     tie.close
-    (tie.spec entries-requires cast-n bond-at-requires bond-in-requires returns returns-2)
+    (tie.spec (λ c κs. search needs) (λ c. search needs) bond-at-requires (λ c κs. search needs) returns returns-2)

@@ -9,15 +9,9 @@ use Rattle.book.proofs.bond_in.Tie as tie
 enum-told : tie.Need-enum-told
 enum-told c = search needs
 
-enum-known-r : tie.Need-enum-known-r
-enum-known-r c = search needs
-
 returns : tie.Need-returns
 unfolding ofBits
 returns c = ap bondIn (sym (c .enum-told .given .1))
 
-returns-2 : tie.Need-returns-2
-returns-2 c = search needs
-
 pub bond-in-spec : {M : Type 1} → statement M
-bond-in-spec = tie.close (tie.spec enum-told enum-known-r returns returns-2)
+bond-in-spec = tie.close (tie.spec enum-told (λ c. search needs) returns (λ c. search needs))

@@ -8,8 +8,5 @@ use Rattle.book.proofs.entries.Tie as tie
 size-at-requires : tie.Need-size-at-requires
 size-at-requires c κs = inr refl
 
-returns : tie.Need-returns
-returns c = search needs
-
 pub entries-spec : {M : Type 1} → statement M
-entries-spec = tie.close (tie.spec size-at-requires returns)
+entries-spec = tie.close (tie.spec size-at-requires (λ c. search needs))

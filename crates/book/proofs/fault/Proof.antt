@@ -22,68 +22,14 @@ term-is c =
     let l = c .before .before in
     by-term _ _ _ (passed (l .before .before)) (sym (l .before .seen-before .ensures) ∙ l .if2 .left) ∙ ap termNumber (sym (c .read .ensures ∙ ap termOf (is-term _ _ _)))
 
-mul-a : tie.Need-mul-a
-mul-a c = search needs
-
-add-a : tie.Need-add-a
-add-a c = search needs
-
-add-e : tie.Need-add-e
-add-e c = search needs
-
-sub-verdict : tie.Need-sub-verdict
-sub-verdict c = search needs
-
-part-verdict-start : tie.Need-part-verdict-start
-part-verdict-start c = search needs
-
-part-verdict-end : tie.Need-part-verdict-end
-part-verdict-end c = search needs
-
-verdict-requires : tie.Need-verdict-requires
-verdict-requires c κs = search needs
-
 returns : tie.Need-returns
 returns c = let e = verdict-is (c .before) in e ∙ sym (by-identifier _ _ _ (λ z. c .if1 .taken (e ∙ z)))
-
-seen-before-requires : tie.Need-seen-before-requires
-seen-before-requires c κs = search needs
 
 returns-2 : tie.Need-returns-2
 returns-2 c = sym (by-earlier _ _ _ (passed (c .before .before)) (sym (c .before .seen-before .ensures) ∙ c .if2 .taken))
 
-mul-b : tie.Need-mul-b
-mul-b c = search needs
-
-add-b : tie.Need-add-b
-add-b c = search needs
-
-mul-b-2 : tie.Need-mul-b-2
-mul-b-2 c = search needs
-
-add-b-2 : tie.Need-add-b-2
-add-b-2 c = search needs
-
-add-f : tie.Need-add-f
-add-f c = search needs
-
-sub-read : tie.Need-sub-read
-sub-read c = search needs
-
-part-read-start : tie.Need-part-read-start
-part-read-start c = search needs
-
-part-read-end : tie.Need-part-read-end
-part-read-end c = search needs
-
-read-requires : tie.Need-read-requires
-read-requires c κs = search needs
-
 enum-told : tie.Need-enum-told
 enum-told c = search needs
-
-enum-told-2 : tie.Need-enum-told-2
-enum-told-2 c = search needs
 
 returns-3 : tie.Need-returns-3
 returns-3 c = sym (term-is (c .before .before) ∙ ap termNumber (c .enum-told .given .1))
@@ -95,26 +41,26 @@ pub fault-spec : {M : Type 1} → statement M
 fault-spec =
     tie.close
     (tie.spec
-    mul-a
-    add-a
-    add-e
-    sub-verdict
-    part-verdict-start
-    part-verdict-end
-    verdict-requires
+    (λ c. search needs)
+    (λ c. search needs)
+    (λ c. search needs)
+    (λ c. search needs)
+    (λ c. search needs)
+    (λ c. search needs)
+    (λ c κs. search needs)
     returns
-    seen-before-requires
+    (λ c κs. search needs)
     returns-2
-    mul-b
-    add-b
-    mul-b-2
-    add-b-2
-    add-f
-    sub-read
-    part-read-start
-    part-read-end
-    read-requires
+    (λ c. search needs)
+    (λ c. search needs)
+    (λ c. search needs)
+    (λ c. search needs)
+    (λ c. search needs)
+    (λ c. search needs)
+    (λ c. search needs)
+    (λ c. search needs)
+    (λ c κs. search needs)
     enum-told
-    enum-told-2
+    (λ c. search needs)
     returns-3
     returns-4)

@@ -27,24 +27,12 @@ past c = rw (count (c .before)) at (c .if2 .taken)
 below : (c : tie.Else2) → c .before .before .before .before .before .args .i < entryCount (now (c .before .before .before .before .before .args .s))
 below c = rw (count (c .before)) at (c .if2 .left)
 
-verdict-requires : tie.Need-verdict-requires
-verdict-requires c κs = search needs
-
-empty-part-requires : tie.Need-empty-part-requires
-empty-part-requires c κs = search needs
-
 returns : tie.Need-returns
 returns c =
     (c .empty-part .ensures ∙ identifier-refused _ _ (refused (c .before)), c .before .before .verdict .ensures ∙ number-refused _ _ (refused (c .before)))
 
 u16-at-requires : tie.Need-u16-at-requires
 u16-at-requires c κs = let a = accepted _ (zero c) in omega (arith, a .four)
-
-cast-n : tie.Need-cast-n
-cast-n c = search needs
-
-empty-part-requires-2 : tie.Need-empty-part-requires-2
-empty-part-requires-2 c κs = search needs
 
 returns-2 : tie.Need-returns-2
 returns-2 c =
@@ -60,12 +48,12 @@ pub identifier-spec : {M : Type 1} → statement M
 identifier-spec =
     tie.close
     (tie.spec
-    verdict-requires
-    empty-part-requires
+    (λ c κs. search needs)
+    (λ c κs. search needs)
     returns
     u16-at-requires
-    cast-n
-    empty-part-requires-2
+    (λ c. search needs)
+    (λ c κs. search needs)
     returns-2
     identifier-at-requires
     returns-3)

@@ -20,17 +20,8 @@ abbrev μ-loop : tie.MeasureT-loop
 loop-holds : tie.Need-loop-holds Inv-loop μ-loop
 loop-holds c = (search needs, least-none _)
 
-fault-requires : tie.Need-fault-requires Inv-loop μ-loop
-fault-requires c κs = search needs
-
 returns : tie.Need-returns Inv-loop μ-loop
 returns c = let e = c .before .fault .ensures in e ∙ first-fault _ _ (c .before .before .before .loop .i) (search needs) (c .before .before .before .loop .inv .1) (λ z. c .if1 .taken (e ∙ z))
-
-add-i : tie.Need-add-i Inv-loop μ-loop
-add-i c = search needs
-
-loop-less : tie.Need-loop-less Inv-loop μ-loop
-loop-less c = search needs
 
 loop-again : tie.Need-loop-again Inv-loop μ-loop
 loop-again c = (search needs, least-more _ _ (c .before .before .before .loop .inv .1) (ap not (eq-eqb _ _ (sym (c .before .fault .ensures) ∙ c .if1 .left))))
@@ -45,9 +36,9 @@ lowest-fault-spec =
     Inv-loop
     μ-loop
     loop-holds
-    fault-requires
+    (λ c κs. search needs)
     returns
-    add-i
-    loop-less
+    (λ c. search needs)
+    (λ c. search needs)
     loop-again
     returns-2)

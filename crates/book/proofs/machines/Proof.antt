@@ -8,8 +8,5 @@ use Rattle.book.proofs.machines.Tie as tie
 size-at-requires : tie.Need-size-at-requires
 size-at-requires c κs = inl refl
 
-returns : tie.Need-returns
-returns c = search needs
-
 pub machines-spec : {M : Type 1} → statement M
-machines-spec = tie.close (tie.spec size-at-requires returns)
+machines-spec = tie.close (tie.spec size-at-requires (λ c. search needs))

@@ -12,9 +12,6 @@ use Rattle.book.proofs.size_at.Tie as tie
 zero : (c : tie.Else1) → bookVerdict (now (c .before .before .before .args .s)) ≡ 0
 zero c = sym (c .before .verdict .ensures) ∙ c .if1 .left
 
-verdict-requires : tie.Need-verdict-requires
-verdict-requires c κs = search needs
-
 returns : tie.Need-returns
 returns c = sym (refused-size _ _ (λ z. c .if1 .taken (c .before .verdict .ensures ∙ z)))
 
@@ -28,4 +25,4 @@ returns-2 : tie.Need-returns-2
 returns-2 c = c .u16-at .ensures ∙ sym (accepted-size _ _ (zero (c .before)))
 
 pub size-at-spec : {M : Type 1} → statement M
-size-at-spec = tie.close (tie.spec verdict-requires returns u16-at-requires cast-result returns-2)
+size-at-spec = tie.close (tie.spec (λ c κs. search needs) returns u16-at-requires cast-result returns-2)

@@ -22,27 +22,9 @@ returns : tie.Need-returns
 unfolding bookVerdict
 returns c = search flags
 
-u16-at-requires : tie.Need-u16-at-requires
-u16-at-requires c κs = search needs
-
-u16-at-requires-2 : tie.Need-u16-at-requires-2
-u16-at-requires-2 c κs = search needs
-
-sizes-in-range-requires : tie.Need-sizes-in-range-requires
-sizes-in-range-requires c κs = search needs
-
 returns-2 : tie.Need-returns-2
 unfolding bookVerdict
 returns-2 c = rw (sizes-is (c .before) ∙ not-true _ (c .if2 .taken)) (search flags)
-
-cast-entries : tie.Need-cast-entries
-cast-entries c = search needs
-
-mul-if3 : tie.Need-mul-if3
-mul-if3 c = search needs
-
-add-if3 : tie.Need-add-if3
-add-if3 c = search needs
 
 returns-3 : tie.Need-returns-3
 unfolding bookVerdict
@@ -60,13 +42,13 @@ verdict-spec =
     tie.close
     (tie.spec
     returns
-    u16-at-requires
-    u16-at-requires-2
-    sizes-in-range-requires
+    (λ c κs. search needs)
+    (λ c κs. search needs)
+    (λ c κs. search needs)
     returns-2
-    cast-entries
-    mul-if3
-    add-if3
+    (λ c. search needs)
+    (λ c. search needs)
+    (λ c. search needs)
     returns-3
     lowest-fault-requires
     returns-4)

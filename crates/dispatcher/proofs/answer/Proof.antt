@@ -7,12 +7,6 @@ use Rattle.dispatcher.proofs.Accepted.{answer-refused, answer-accepted}
 use Rattle.dispatcher.proofs.answer.Statement.{statement}
 use Rattle.dispatcher.proofs.answer.Tie as tie
 
-number-requires : tie.Need-number-requires
-number-requires c κs = search needs
-
-refuse-requires : tie.Need-refuse-requires
-refuse-requires c κs = search needs
-
 returns : tie.Need-returns
 returns c = let q = c .before .before .number .ensures in rw (c .refuse .ensures, q) (answer-refused _ _ (λ z. c .before .if1 .taken (q ∙ z)))
 
@@ -23,4 +17,4 @@ returns-2 : tie.Need-returns-2
 returns-2 c = ap accept (c .next .ensures) ∙ answer-accepted _ _ (sym (c .before .before .number .ensures) ∙ c .before .if1 .left)
 
 pub answer-spec : {M : Type 1} → statement M
-answer-spec = tie.close (tie.spec number-requires refuse-requires returns next-requires returns-2)
+answer-spec = tie.close (tie.spec (λ c κs. search needs) (λ c κs. search needs) returns next-requires returns-2)

@@ -23,9 +23,6 @@ returns-2 : tie.Need-returns-2
 unfolding eventOf
 returns-2 c = search flags
 
-deliver-number-requires : tie.Need-deliver-number-requires
-deliver-number-requires c κs = search needs
-
 returns-3 : tie.Need-returns-3
 unfolding eventOf
 returns-3 c = search flags
@@ -70,7 +67,7 @@ event-number-spec =
     returns
     steal-number-requires
     returns-2
-    deliver-number-requires
+    (λ c κs. search needs)
     returns-3
     start-number-requires
     returns-4

@@ -18,24 +18,9 @@ returns : tie.Need-returns
 unfolding answerOf
 returns c = rw (formed-short _ (c .if1 .taken))
 
-shared-slice-read-code : tie.Need-shared-slice-read-code
-shared-slice-read-code c = search needs
-
-shared-slice-read-a : tie.Need-shared-slice-read-a
-shared-slice-read-a c = search needs
-
-shared-slice-read-b : tie.Need-shared-slice-read-b
-shared-slice-read-b c = search needs
-
-formed-requires : tie.Need-formed-requires
-formed-requires c κs = search needs
-
 returns-2 : tie.Need-returns-2
 unfolding answerOf
 returns-2 c = rw (formed-is (c .before .before .before .before .before .before .before .args .bytes .now) (c .before .before .before .before .before .if1 .left) ∙ sym (c .before .formed .ensures) ∙ not-true _ (c .if2 .taken))
-
-numbered-requires : tie.Need-numbered-requires
-numbered-requires c κs = search needs
 
 returns-3 : tie.Need-returns-3
 unfolding answerOf
@@ -55,12 +40,12 @@ number-spec =
     tie.close
     (tie.spec
     returns
-    shared-slice-read-code
-    shared-slice-read-a
-    shared-slice-read-b
-    formed-requires
+    (λ c. search needs)
+    (λ c. search needs)
+    (λ c. search needs)
+    (λ c κs. search needs)
     returns-2
-    numbered-requires
+    (λ c κs. search needs)
     returns-3
     event-number-requires
     returns-4)

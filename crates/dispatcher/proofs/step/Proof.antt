@@ -7,12 +7,6 @@ use Rattle.dispatcher.specs.Step.{stepOf}
 use Rattle.dispatcher.proofs.step.Statement.{statement}
 use Rattle.dispatcher.proofs.step.Tie as tie
 
-table-ok-requires : tie.Need-table-ok-requires
-table-ok-requires c κs = search needs
-
-refuse-requires : tie.Need-refuse-requires
-refuse-requires c κs = search needs
-
 returns : tie.Need-returns
 unfolding stepOf
 returns c = rw (c .refuse .ensures, sym (c .before .before .table-ok .ensures) ∙ not-true _ (c .before .if1 .taken))
@@ -26,4 +20,4 @@ returns-2 c = rw (c .answer .ensures, sym (c .before .before .table-ok .ensures)
 
 pub step-spec : {M : Type 1} → statement M
 step-spec =
-    tie.close (tie.spec table-ok-requires refuse-requires returns answer-requires returns-2)
+    tie.close (tie.spec (λ c κs. search needs) (λ c κs. search needs) returns answer-requires returns-2)

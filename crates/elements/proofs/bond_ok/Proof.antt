@@ -5,17 +5,11 @@ use borrow.Author.Needs.{needs}
 use Rattle.elements.proofs.bond_ok.Statement.{statement}
 use Rattle.elements.proofs.bond_ok.Tie as tie
 
-in-range-requires : tie.Need-in-range-requires
-in-range-requires c κs = search needs
-
 returns : tie.Need-returns
 returns c = rw (c .in-range .ensures) (search flags)
-
-empty-bond-requires : tie.Need-empty-bond-requires
-empty-bond-requires c κs = search needs
 
 returns-2 : tie.Need-returns-2
 returns-2 c = rw (c .empty-bond .ensures) (search flags)
 
 pub bond-ok-spec : {M : Type 1} → statement M
-bond-ok-spec = tie.close (tie.spec in-range-requires returns empty-bond-requires returns-2)
+bond-ok-spec = tie.close (tie.spec (λ c κs. search needs) returns (λ c κs. search needs) returns-2)

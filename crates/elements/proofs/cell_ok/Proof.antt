@@ -4,11 +4,8 @@ use borrow.Author.Needs.{needs}
 use Rattle.elements.proofs.cell_ok.Statement.{statement}
 use Rattle.elements.proofs.cell_ok.Tie as tie
 
-copy-ok-requires : tie.Need-copy-ok-requires
-copy-ok-requires c κs = search needs
-
 returns : tie.Need-returns
 returns c = cc
 
 pub cell-ok-spec : {M : Type 1} → statement M
-cell-ok-spec = tie.close (tie.spec copy-ok-requires returns)
+cell-ok-spec = tie.close (tie.spec (λ c κs. search needs) returns)

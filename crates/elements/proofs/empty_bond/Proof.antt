@@ -4,11 +4,8 @@ use borrow.Author.Needs.{needs}
 use Rattle.elements.proofs.empty_bond.Statement.{statement}
 use Rattle.elements.proofs.empty_bond.Tie as tie
 
-no-terms-requires : tie.Need-no-terms-requires
-no-terms-requires c κs = search needs
-
 returns : tie.Need-returns
 returns c = cc
 
 pub empty-bond-spec : {M : Type 1} → statement M
-empty-bond-spec = tie.close (tie.spec no-terms-requires returns)
+empty-bond-spec = tie.close (tie.spec (λ c κs. search needs) returns)

@@ -4,11 +4,8 @@ use borrow.Author.Needs.{needs}
 use Rattle.elements.proofs.reserved_ok.Statement.{statement}
 use Rattle.elements.proofs.reserved_ok.Tie as tie
 
-copy-ok-requires : tie.Need-copy-ok-requires
-copy-ok-requires c κs = search needs
-
 returns : tie.Need-returns
 returns c = cc
 
 pub reserved-ok-spec : {M : Type 1} → statement M
-reserved-ok-spec = tie.close (tie.spec copy-ok-requires returns)
+reserved-ok-spec = tie.close (tie.spec (λ c κs. search needs) returns)

@@ -7,12 +7,6 @@ use Rattle.events.specs.Events.{admitOf}
 use Rattle.events.proofs.admit_number.Statement.{statement}
 use Rattle.events.proofs.admit_number.Tie as tie
 
-mul-job : tie.Need-mul-job
-mul-job c = search needs
-
-array-copy-out-job : tie.Need-array-copy-out-job
-array-copy-out-job c = search needs
-
 returns : tie.Need-returns
 unfolding admitOf parts
 returns c = search flags
@@ -22,4 +16,4 @@ unfolding admitOf parts
 returns-2 c = search flags
 
 pub admit-number-spec : {M : Type 1} → statement M
-admit-number-spec = tie.close (tie.spec mul-job array-copy-out-job returns returns-2)
+admit-number-spec = tie.close (tie.spec (λ c. search needs) (λ c. search needs) returns returns-2)

@@ -5,12 +5,9 @@ use Rattle.events.specs.Events.{admitted}
 use Rattle.events.proofs.admitted.Statement.{statement}
 use Rattle.events.proofs.admitted.Tie as tie
 
-open-on-root-requires : tie.Need-open-on-root-requires
-open-on-root-requires c κs = search needs
-
 returns : tie.Need-returns
 unfolding admitted
 returns c = c .open-on-root .ensures
 
 pub admitted-spec : {M : Type 1} → statement M
-admitted-spec = tie.close (tie.spec open-on-root-requires returns)
+admitted-spec = tie.close (tie.spec (λ c κs. search needs) returns)

@@ -7,12 +7,6 @@ use Rattle.events.specs.Events.{deliverOf}
 use Rattle.events.proofs.deliver_number.Statement.{statement}
 use Rattle.events.proofs.deliver_number.Tie as tie
 
-oldest-requires : tie.Need-oldest-requires
-oldest-requires c κs = search needs
-
-cast-n : tie.Need-cast-n
-cast-n c = search needs
-
 returns : tie.Need-returns
 unfolding deliverOf parts
 returns c = rw (← c .before .before .oldest .ensures) (search flags)
@@ -22,4 +16,4 @@ unfolding deliverOf parts
 returns-2 c = rw (← c .before .before .oldest .ensures) (search flags)
 
 pub deliver-number-spec : {M : Type 1} → statement M
-deliver-number-spec = tie.close (tie.spec oldest-requires cast-n returns returns-2)
+deliver-number-spec = tie.close (tie.spec (λ c κs. search needs) (λ c. search needs) returns returns-2)

@@ -8,18 +8,6 @@ use Rattle.events.specs.Events.{delivered}
 use Rattle.events.proofs.delivered.Statement.{statement}
 use Rattle.events.proofs.delivered.Tie as tie
 
-oldest-requires : tie.Need-oldest-requires
-oldest-requires c κs = search needs
-
-mul-m : tie.Need-mul-m
-mul-m c = search needs
-
-array-copy-out-m : tie.Need-array-copy-out-m
-array-copy-out-m c = search needs
-
-pull-requires : tie.Need-pull-requires
-pull-requires c κs = search needs
-
 handle-requires : tie.Need-handle-requires
 unfolding pull parts
 handle-requires c κs = (record { free = rw (c .pull .ensures) (search tests) }, c .before .before .before .before .pre .0 .messages (c .before .before .before .oldest .result) (search tests))
@@ -29,4 +17,4 @@ unfolding delivered parts
 returns c = rw (c .handle .ensures, c .before .pull .ensures, ← c .before .before .before .before .oldest .ensures)
 
 pub delivered-spec : {M : Type 1} → statement M
-delivered-spec = tie.close (tie.spec oldest-requires mul-m array-copy-out-m pull-requires handle-requires returns)
+delivered-spec = tie.close (tie.spec (λ c κs. search needs) (λ c. search needs) (λ c. search needs) (λ c κs. search needs) handle-requires returns)

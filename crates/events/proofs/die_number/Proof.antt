@@ -11,12 +11,6 @@ returns : tie.Need-returns
 unfolding dieOf parts
 returns c = search flags
 
-mul-n : tie.Need-mul-n
-mul-n c = search needs
-
-array-copy-out-n : tie.Need-array-copy-out-n
-array-copy-out-n c = search needs
-
 returns-2 : tie.Need-returns-2
 unfolding dieOf parts
 returns-2 c = search flags
@@ -26,4 +20,4 @@ unfolding dieOf parts
 returns-3 c = search flags
 
 pub die-number-spec : {M : Type 1} → statement M
-die-number-spec = tie.close (tie.spec returns mul-n array-copy-out-n returns-2 returns-3)
+die-number-spec = tie.close (tie.spec returns (λ c. search needs) (λ c. search needs) returns-2 returns-3)

@@ -13,9 +13,6 @@ returns-2 c = (search flags, search needs)
 returns-3 : tie.Need-returns-3
 returns-3 c = (search flags, search needs)
 
-sub-result : tie.Need-sub-result
-sub-result c = search needs
-
 returns-4 : tie.Need-returns-4
 returns-4 c = (search flags, search needs)
 
@@ -23,4 +20,4 @@ returns-5 : tie.Need-returns-5
 returns-5 c = (search flags, search needs)
 
 pub value-spec : {M : Type 1} → statement M
-value-spec = tie.close (tie.spec returns returns-2 returns-3 sub-result returns-4 returns-5)
+value-spec = tie.close (tie.spec returns returns-2 returns-3 (λ c. search needs) returns-4 returns-5)

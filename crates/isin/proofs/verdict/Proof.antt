@@ -19,18 +19,9 @@ past c = sym (c .before .has-form .ensures) ∙ not-false _ (c .if1 .left)
 long : (c : tie.Else1) → length (now (c .before .before .before .args .id)) ≡ 12
 long c = twelve _ (past c)
 
-has-form-requires : tie.Need-has-form-requires
-has-form-requires c κs = search needs
-
 returns : tie.Need-returns
 unfolding verdictOf
 returns c = rw (sym (c .before .has-form .ensures) ∙ not-true _ (c .if1 .taken))
-
-sub-sum : tie.Need-sub-sum
-sub-sum c = search needs
-
-part-sum-start : tie.Need-part-sum-start
-part-sum-start c = search needs
 
 part-sum-end : tie.Need-part-sum-end
 part-sum-end c = let n = long c in search needs
@@ -40,15 +31,6 @@ sum-requires c κs = let n = long (c .before) in search needs
 
 shared-slice-read-value : tie.Need-shared-slice-read-value
 shared-slice-read-value c = let n = long (c .before .before .before) in search needs
-
-value-requires : tie.Need-value-requires
-value-requires c κs = search needs
-
-cast-t : tie.Need-cast-t
-cast-t c = search needs
-
-add-t : tie.Need-add-t
-add-t c = search needs
 
 returns-2 : tie.Need-returns-2
 unfolding verdictOf total
@@ -62,15 +44,15 @@ pub verdict-spec : {M : Type 1} → statement M
 verdict-spec =
     tie.close
     (tie.spec
-    has-form-requires
+    (λ c κs. search needs)
     returns
-    sub-sum
-    part-sum-start
+    (λ c. search needs)
+    (λ c. search needs)
     part-sum-end
     sum-requires
     shared-slice-read-value
-    value-requires
-    cast-t
-    add-t
+    (λ c κs. search needs)
+    (λ c. search needs)
+    (λ c. search needs)
     returns-2
     returns-3)

@@ -35,9 +35,6 @@ rule d h =
     let e : eqb x (doubled d) && ltb x 10 ≡ true = all-at right 10 d computed h in
     (eqb-true _ _ (and-left (eqb x (doubled d)) (ltb x 10) e), ltb-true _ _ (and-right (eqb x (doubled d)) (ltb x 10) e))
 
-array-read-result : tie.Need-array-read-result
-array-read-result c = search needs
-
 returns : tie.Need-returns
 unfolding table
 returns c =
@@ -45,8 +42,5 @@ returns c =
     let r = rule (a .d) (c .before .pre) in
     (r .0 ∙ sym (ap (λ (t : Bool). weight t (a .d)) (c .if1 .taken)), r .1)
 
-returns-2 : tie.Need-returns-2
-returns-2 c = search needs
-
 pub weighed-spec : {M : Type 1} → statement M
-weighed-spec = tie.close (tie.spec array-read-result returns returns-2)
+weighed-spec = tie.close (tie.spec (λ c. search needs) returns (λ c. search needs))

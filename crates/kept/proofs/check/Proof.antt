@@ -7,18 +7,12 @@ use borrow.Author.Needs.{needs}
 use Rattle.kept.proofs.check.Statement.{statement}
 use Rattle.kept.proofs.check.Tie as tie
 
-formed-requires : tie.Need-formed-requires
-formed-requires c κs = search needs
-
 returns : tie.Need-returns
 unfolding checkOf
 returns c = rw (sym (c .before .formed .ensures) ∙ not-true _ (c .if1 .taken))
 
 read-requires : tie.Need-read-requires
 read-requires c κs = formed-length _ (sym (c .before .formed .ensures) ∙ not-false _ (c .if1 .left))
-
-table-ok-requires : tie.Need-table-ok-requires
-table-ok-requires c κs = search needs
 
 returns-2 : tie.Need-returns-2
 unfolding checkOf
@@ -31,4 +25,4 @@ returns-3 c = rw (sym (c .before .before .before .before .formed .ensures) ∙ n
 pub check-spec : {M : Type 1} → statement M
 check-spec =
     tie.close
-    (tie.spec formed-requires returns read-requires table-ok-requires returns-2 returns-3)
+    (tie.spec (λ c κs. search needs) returns read-requires (λ c κs. search needs) returns-2 returns-3)

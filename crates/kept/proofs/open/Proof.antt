@@ -4,24 +4,15 @@ use borrow.Author.Needs.{needs}
 use Rattle.kept.proofs.open.Statement.{statement}
 use Rattle.kept.proofs.open.Tie as tie
 
-open-requires : tie.Need-open-requires
-open-requires c κs = search needs
-
 returns : tie.Need-returns
 returns c = book-refused _ _ _ (c .before .open .ensures) (c .if1 .taken)
 
 returns-2 : tie.Need-returns-2
 returns-2 c = buffer-refused _ _ _ (c .before .before .open .ensures) (c .before .if1 .left) (c .if2 .taken)
 
-write-requires : tie.Need-write-requires
-write-requires c κs = search needs
-
-same-length : tie.Need-same-length
-same-length c = search needs
-
 returns-3 : tie.Need-returns-3
 returns-3 c = opened _ _ _ (c .before .before .before .before .before .before .before .open .ensures) _ (c .before .before .before .before .before .before .if1 .left) (c .before .before .before .before .before .if2 .left) (c .before .before .write .ensures)
 
 pub open-spec : {M : Type 1} → statement M
 open-spec =
-    tie.close (tie.spec open-requires returns returns-2 write-requires same-length returns-3)
+    tie.close (tie.spec (λ c κs. search needs) returns returns-2 (λ c κs. search needs) (λ c. search needs) returns-3)

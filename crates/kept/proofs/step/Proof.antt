@@ -6,32 +6,17 @@ use borrow.Author.Needs.{needs}
 use Rattle.kept.proofs.step.Statement.{statement}
 use Rattle.kept.proofs.step.Tie as tie
 
-formed-requires : tie.Need-formed-requires
-formed-requires c κs = search needs
-
-same-length : tie.Need-same-length
-same-length c = search needs
-
 returns : tie.Need-returns
 returns c = no-table _ _ (sym (c .before .formed .ensures) ∙ not-true _ (c .if1 .taken))
 
 read-requires : tie.Need-read-requires
 read-requires c κs = formed-length _ (sym (c .before .before .formed .ensures) ∙ not-false _ (c .before .if1 .left))
 
-step-requires : tie.Need-step-requires
-step-requires c κs = search needs
-
-same-length-2 : tie.Need-same-length-2
-same-length-2 c = search needs
-
 returns-2 : tie.Need-returns-2
 returns-2 c = refused _ _ _ _ (sym (c .before .before .before .before .before .formed .ensures) ∙ not-false _ (c .before .before .before .before .if1 .left)) (c .before .before .read .ensures) (c .before .step .ensures) (c .if2 .taken)
 
 write-requires : tie.Need-write-requires
 write-requires c κs = formed-length _ (sym (c .before .before .before .before .before .before .before .formed .ensures) ∙ not-false _ (c .before .before .before .before .before .before .if1 .left))
-
-same-length-3 : tie.Need-same-length-3
-same-length-3 c = search needs
 
 returns-3 : tie.Need-returns-3
 returns-3 c = accepted _ _ _ _ (sym (c .before .before .before .before .before .before .before .before .before .before .formed .ensures) ∙ not-false _ (c .before .before .before .before .before .before .before .before .before .if1 .left)) (c .before .before .before .before .before .before .before .read .ensures) (c .before .before .before .before .before .before .step .ensures) _ (c .before .before .before .before .before .if2 .left) (c .before .before .write .ensures)
@@ -40,13 +25,13 @@ pub step-spec : {M : Type 1} → statement M
 step-spec =
     tie.close
     (tie.spec
-    formed-requires
-    same-length
+    (λ c κs. search needs)
+    (λ c. search needs)
     returns
     read-requires
-    step-requires
-    same-length-2
+    (λ c κs. search needs)
+    (λ c. search needs)
     returns-2
     write-requires
-    same-length-3
+    (λ c. search needs)
     returns-3)

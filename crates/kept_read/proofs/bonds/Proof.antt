@@ -23,27 +23,6 @@ loop-holds : tie.Need-loop-holds Inv-loop μ-loop
 unfolding ofBits
 loop-holds c = (search tests, search tests, tabulate-none _ 64 noBond)
 
-mul-bond : tie.Need-mul-bond Inv-loop μ-loop
-mul-bond c = search tests
-
-add-bond : tie.Need-add-bond Inv-loop μ-loop
-add-bond c = search tests
-
-bond-requires : tie.Need-bond-requires Inv-loop μ-loop
-bond-requires c κs = search tests
-
-mul-out : tie.Need-mul-out Inv-loop μ-loop
-mul-out c = search tests
-
-array-set-from-out : tie.Need-array-set-from-out Inv-loop μ-loop
-array-set-from-out c = search tests
-
-add-i : tie.Need-add-i Inv-loop μ-loop
-add-i c = search tests
-
-loop-less : tie.Need-loop-less Inv-loop μ-loop
-loop-less c = search tests
-
 loop-again : tie.Need-loop-again Inv-loop μ-loop
 loop-again c =
     let l = c .before .before in
@@ -65,12 +44,12 @@ bonds-spec =
     Inv-loop
     μ-loop
     loop-holds
-    mul-bond
-    add-bond
-    bond-requires
-    mul-out
-    array-set-from-out
-    add-i
-    loop-less
+    (λ c. search tests)
+    (λ c. search tests)
+    (λ c κs. search tests)
+    (λ c. search tests)
+    (λ c. search tests)
+    (λ c. search tests)
+    (λ c. search tests)
     loop-again
     returns)

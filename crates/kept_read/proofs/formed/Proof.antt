@@ -25,15 +25,6 @@ returns c = search flags
 loop-holds : tie.Need-loop-holds Inv-loop μ-loop
 loop-holds c = (search tests, search tests, all-none _)
 
-mul-terms-formed : tie.Need-mul-terms-formed Inv-loop μ-loop
-mul-terms-formed c = search tests
-
-add-terms-formed : tie.Need-add-terms-formed Inv-loop μ-loop
-add-terms-formed c = search tests
-
-terms-formed-requires : tie.Need-terms-formed-requires Inv-loop μ-loop
-terms-formed-requires c κs = search tests
-
 returns-2 : tie.Need-returns-2 Inv-loop μ-loop
 unfolding formed
 returns-2 c =
@@ -41,12 +32,6 @@ returns-2 c =
     let i = c .before .before .before .loop .i in
     rw (eq-eqb _ _ (c .before .before .before .loop .inv .0))
     (sym (all-fail (λ k. termsFormed s (bondStart k)) 64 i (search tests) (sym (c .before .terms-formed .ensures) ∙ not-true _ (c .if2 .taken))))
-
-add-i : tie.Need-add-i Inv-loop μ-loop
-add-i c = search tests
-
-loop-less : tie.Need-loop-less Inv-loop μ-loop
-loop-less c = search tests
 
 loop-again : tie.Need-loop-again Inv-loop μ-loop
 loop-again c = (search tests, search tests, all-more _ _ (search tests) (sym (c .before .terms-formed .ensures) ∙ not-false _ (c .if2 .left)))
@@ -65,11 +50,11 @@ formed-spec =
     μ-loop
     returns
     loop-holds
-    mul-terms-formed
-    add-terms-formed
-    terms-formed-requires
+    (λ c. search tests)
+    (λ c. search tests)
+    (λ c κs. search tests)
     returns-2
-    add-i
-    loop-less
+    (λ c. search tests)
+    (λ c. search tests)
     loop-again
     returns-3)

@@ -21,27 +21,6 @@ abbrev μ-loop : tie.MeasureT-loop
 loop-holds : tie.Need-loop-holds Inv-loop μ-loop
 loop-holds c = (search tests, search tests, tabulate-none _ 64 noJob)
 
-mul-job : tie.Need-mul-job Inv-loop μ-loop
-mul-job c = search tests
-
-add-job : tie.Need-add-job Inv-loop μ-loop
-add-job c = search tests
-
-job-requires : tie.Need-job-requires Inv-loop μ-loop
-job-requires c κs = search tests
-
-mul-out : tie.Need-mul-out Inv-loop μ-loop
-mul-out c = search tests
-
-array-set-from-out : tie.Need-array-set-from-out Inv-loop μ-loop
-array-set-from-out c = search tests
-
-add-i : tie.Need-add-i Inv-loop μ-loop
-add-i c = search tests
-
-loop-less : tie.Need-loop-less Inv-loop μ-loop
-loop-less c = search tests
-
 loop-again : tie.Need-loop-again Inv-loop μ-loop
 loop-again c =
     let l = c .before .before in
@@ -63,12 +42,12 @@ jobs-spec =
     Inv-loop
     μ-loop
     loop-holds
-    mul-job
-    add-job
-    job-requires
-    mul-out
-    array-set-from-out
-    add-i
-    loop-less
+    (λ c. search tests)
+    (λ c. search tests)
+    (λ c κs. search tests)
+    (λ c. search tests)
+    (λ c. search tests)
+    (λ c. search tests)
+    (λ c. search tests)
     loop-again
     returns)

@@ -24,8 +24,5 @@ float-from-bits-result c =
     let b = c .before .args .bits in
     subst (λ (t : Bool). T (not t)) (sym (nanBits-above binary64 b ∙ le-ltb _ _ (c .if1 .left))) tt
 
-returns-2 : tie.Need-returns-2
-returns-2 c = search needs
-
 pub number-spec : {M : Type 1} → statement M
-number-spec = tie.close (tie.spec returns float-from-bits-result returns-2)
+number-spec = tie.close (tie.spec returns float-from-bits-result (λ c. search needs))

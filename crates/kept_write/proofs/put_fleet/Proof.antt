@@ -6,17 +6,11 @@ use borrow.Author.Needs.{needs}
 use Rattle.kept_write.proofs.put_fleet.Statement.{statement}
 use Rattle.kept_write.proofs.put_fleet.Tie as tie
 
-put-machines-requires : tie.Need-put-machines-requires
-put-machines-requires c κs = search needs
-
 put-told-requires : tie.Need-put-told-requires
 put-told-requires c κs = omega (arith, end-machines)
 
 put-pools-requires : tie.Need-put-pools-requires
 put-pools-requires c κs = omega (arith, end-machines)
-
-same-length : tie.Need-same-length
-same-length c = search needs
 
 returns : tie.Need-returns
 returns c = (search (written-fleet, long), omega (arith, end-machines))
@@ -24,4 +18,4 @@ returns c = (search (written-fleet, long), omega (arith, end-machines))
 pub put-fleet-spec : {M : Type 1} → statement M
 put-fleet-spec =
     tie.close
-    (tie.spec put-machines-requires put-told-requires put-pools-requires same-length returns)
+    (tie.spec (λ c κs. search needs) put-told-requires put-pools-requires (λ c. search needs) returns)

@@ -4,21 +4,9 @@ use borrow.Author.Needs.{needs}
 use Rattle.kept_write.proofs.put_message.Statement.{statement}
 use Rattle.kept_write.proofs.put_message.Tie as tie
 
-slice-aggregate-put : tie.Need-slice-aggregate-put
-slice-aggregate-put c = search needs
-
-put-requires : tie.Need-put-requires
-put-requires c κs = search needs
-
-put-u64-requires : tie.Need-put-u64-requires
-put-u64-requires c κs = search needs
-
-same-length : tie.Need-same-length
-same-length c = search needs
-
 returns : tie.Need-returns
 returns c = search written-message
 
 pub put-message-spec : {M : Type 1} → statement M
 put-message-spec =
-    tie.close (tie.spec slice-aggregate-put put-requires put-u64-requires same-length returns)
+    tie.close (tie.spec (λ c. search needs) (λ c κs. search needs) (λ c κs. search needs) (λ c. search needs) returns)

@@ -5,20 +5,8 @@ use borrow.Author.Needs.{needs}
 use Rattle.kept_write.proofs.put_u32.Statement.{statement}
 use Rattle.kept_write.proofs.put_u32.Tie as tie
 
-cast-put-u16 : tie.Need-cast-put-u16
-cast-put-u16 c = search needs
-
-put-u16-requires : tie.Need-put-u16-requires
-put-u16-requires c κs = search needs
-
-cast-put-u16-2 : tie.Need-cast-put-u16-2
-cast-put-u16-2 c = search needs
-
 put-u16-requires-2 : tie.Need-put-u16-requires-2
 put-u16-requires-2 c κs = omega (arith, end-16)
-
-same-length : tie.Need-same-length
-same-length c = search needs
 
 returns : tie.Need-returns
 returns c = search written-32
@@ -26,4 +14,4 @@ returns c = search written-32
 pub put-u32-spec : {M : Type 1} → statement M
 put-u32-spec =
     tie.close
-    (tie.spec cast-put-u16 put-u16-requires cast-put-u16-2 put-u16-requires-2 same-length returns)
+    (tie.spec (λ c. search needs) (λ c κs. search needs) (λ c. search needs) put-u16-requires-2 (λ c. search needs) returns)

@@ -6,17 +6,11 @@ use borrow.Author.Needs.{needs}
 use Rattle.kept_write.proofs.write.Statement.{statement}
 use Rattle.kept_write.proofs.write.Tie as tie
 
-put-entries-requires : tie.Need-put-entries-requires
-put-entries-requires c κs = search needs
-
 put-fleet-requires : tie.Need-put-fleet-requires
 put-fleet-requires c κs = omega (arith, end-entries)
 
 put-flight-requires : tie.Need-put-flight-requires
 put-flight-requires c κs = omega (arith, end-entries)
-
-same-length : tie.Need-same-length
-same-length c = search needs
 
 returns : tie.Need-returns
 returns c = search (written-all, long)
@@ -24,4 +18,4 @@ returns c = search (written-all, long)
 pub write-spec : {M : Type 1} → statement M
 write-spec =
     tie.close
-    (tie.spec put-entries-requires put-fleet-requires put-flight-requires same-length returns)
+    (tie.spec (λ c κs. search needs) put-fleet-requires put-flight-requires (λ c. search needs) returns)

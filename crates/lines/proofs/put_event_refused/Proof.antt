@@ -8,23 +8,11 @@ use borrow.Author.Needs.{needs}
 use Rattle.lines.proofs.put_event_refused.Statement.{statement}
 use Rattle.lines.proofs.put_event_refused.Tie as tie
 
-slice-aggregate-put : tie.Need-slice-aggregate-put
-slice-aggregate-put c = search needs
-
-put-requires : tie.Need-put-requires
-put-requires c κs = search needs
-
 put-decimal-requires : tie.Need-put-decimal-requires
 put-decimal-requires c κs = omega (arith, five-digits (c .before .before .before .before .before .before .before .args .place))
 
-slice-aggregate-put-numbered : tie.Need-slice-aggregate-put-numbered
-slice-aggregate-put-numbered c = search needs
-
 put-numbered-requires : tie.Need-put-numbered-requires
 put-numbered-requires c κs = (omega (arith, five-digits (c .before .before .before .before .before .before .before .before .before .before .before .before .args .place)), c .before .before .before .before .before .before .before .before .before .before .before .before .pre .1)
-
-same-length : tie.Need-same-length
-same-length c = search needs
 
 returns : tie.Need-returns
 unfolding eventRefused
@@ -37,10 +25,10 @@ pub put-event-refused-spec : {M : Type 1} → statement M
 put-event-refused-spec =
     tie.close
     (tie.spec
-    slice-aggregate-put
-    put-requires
+    (λ c. search needs)
+    (λ c κs. search needs)
     put-decimal-requires
-    slice-aggregate-put-numbered
+    (λ c. search needs)
     put-numbered-requires
-    same-length
+    (λ c. search needs)
     returns)

@@ -7,18 +7,6 @@ use borrow.Author.Needs.{needs}
 use Rattle.lines.proofs.put_not_admitted.Statement.{statement}
 use Rattle.lines.proofs.put_not_admitted.Tie as tie
 
-put-requires : tie.Need-put-requires
-put-requires c κs = search needs
-
-slice-aggregate-put : tie.Need-slice-aggregate-put
-slice-aggregate-put c = search needs
-
-put-requires-2 : tie.Need-put-requires-2
-put-requires-2 c κs = search needs
-
-same-length : tie.Need-same-length
-same-length c = search needs
-
 returns : tie.Need-returns
 unfolding notAdmitted
 returns c =
@@ -28,4 +16,4 @@ returns c =
 
 pub put-not-admitted-spec : {M : Type 1} → statement M
 put-not-admitted-spec =
-    tie.close (tie.spec put-requires slice-aggregate-put put-requires-2 same-length returns)
+    tie.close (tie.spec (λ c κs. search needs) (λ c. search needs) (λ c κs. search needs) (λ c. search needs) returns)

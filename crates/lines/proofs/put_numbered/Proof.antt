@@ -8,20 +8,11 @@ use borrow.Author.Needs.{needs}
 use Rattle.lines.proofs.put_numbered.Statement.{statement}
 use Rattle.lines.proofs.put_numbered.Tie as tie
 
-put-requires : tie.Need-put-requires
-put-requires c κs = search needs
-
 put-decimal-requires : tie.Need-put-decimal-requires
 put-decimal-requires c κs = omega (arith, two-digits (c .before .before .before .before .before .before .before .args .n) (c .before .before .before .before .before .before .before .pre .1))
 
-slice-aggregate-put : tie.Need-slice-aggregate-put
-slice-aggregate-put c = search needs
-
 put-requires-2 : tie.Need-put-requires-2
 put-requires-2 c κs = omega (arith, two-digits (c .before .before .before .before .before .before .before .before .before .before .before .before .args .n) (c .before .before .before .before .before .before .before .before .before .before .before .before .pre .1))
-
-same-length : tie.Need-same-length
-same-length c = search needs
 
 returns : tie.Need-returns
 unfolding numbered
@@ -34,9 +25,9 @@ pub put-numbered-spec : {M : Type 1} → statement M
 put-numbered-spec =
     tie.close
     (tie.spec
-    put-requires
+    (λ c κs. search needs)
     put-decimal-requires
-    slice-aggregate-put
+    (λ c. search needs)
     put-requires-2
-    same-length
+    (λ c. search needs)
     returns)

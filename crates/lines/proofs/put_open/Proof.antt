@@ -7,18 +7,6 @@ use borrow.Author.Needs.{needs}
 use Rattle.lines.proofs.put_open.Statement.{statement}
 use Rattle.lines.proofs.put_open.Tie as tie
 
-put-requires : tie.Need-put-requires
-put-requires c κs = search needs
-
-slice-aggregate-put-numbered : tie.Need-slice-aggregate-put-numbered
-slice-aggregate-put-numbered c = search needs
-
-put-numbered-requires : tie.Need-put-numbered-requires
-put-numbered-requires c κs = search needs
-
-same-length : tie.Need-same-length
-same-length c = search needs
-
 returns : tie.Need-returns
 unfolding openReplica
 returns c =
@@ -29,4 +17,4 @@ returns c =
 pub put-open-spec : {M : Type 1} → statement M
 put-open-spec =
     tie.close
-    (tie.spec put-requires slice-aggregate-put-numbered put-numbered-requires same-length returns)
+    (tie.spec (λ c κs. search needs) (λ c. search needs) (λ c κs. search needs) (λ c. search needs) returns)

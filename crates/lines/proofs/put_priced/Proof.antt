@@ -10,26 +10,8 @@ use borrow.Author.Needs.{needs}
 use Rattle.lines.proofs.put_priced.Statement.{statement}
 use Rattle.lines.proofs.put_priced.Tie as tie
 
-put-requires : tie.Need-put-requires
-put-requires c κs = search needs
-
-slice-aggregate-put : tie.Need-slice-aggregate-put
-slice-aggregate-put c = search needs
-
-put-requires-2 : tie.Need-put-requires-2
-put-requires-2 c κs = search needs
-
-put-hex-requires : tie.Need-put-hex-requires
-put-hex-requires c κs = search needs
-
-slice-aggregate-put-numbered : tie.Need-slice-aggregate-put-numbered
-slice-aggregate-put-numbered c = search needs
-
 put-numbered-requires : tie.Need-put-numbered-requires
 put-numbered-requires c κs = (omega (arith, length-hex (c .before .before .before .before .before .before .before .before .before .before .before .before .before .before .before .before .before .args .price)), c .before .before .before .before .before .before .before .before .before .before .before .before .before .before .before .before .before .pre .1)
-
-same-length : tie.Need-same-length
-same-length c = search needs
 
 returns : tie.Need-returns
 unfolding priced
@@ -42,11 +24,11 @@ pub put-priced-spec : {M : Type 1} → statement M
 put-priced-spec =
     tie.close
     (tie.spec
-    put-requires
-    slice-aggregate-put
-    put-requires-2
-    put-hex-requires
-    slice-aggregate-put-numbered
+    (λ c κs. search needs)
+    (λ c. search needs)
+    (λ c κs. search needs)
+    (λ c κs. search needs)
+    (λ c. search needs)
     put-numbered-requires
-    same-length
+    (λ c. search needs)
     returns)

@@ -23,47 +23,14 @@ abbrev μ-loop : tie.MeasureT-loop
 full : (c : tie.Start Inv-loop μ-loop) → length (c .args .t1 .messages) ≡ 128
 full c = long (c .args .t1) _ (c .good .0) .messages
 
-cast-n : tie.Need-cast-n Inv-loop μ-loop
-cast-n c = search tests
-
 loop-holds : tie.Need-loop-holds Inv-loop μ-loop
 loop-holds c = (search tests, kept-none _ _ _ _)
-
-mul-m : tie.Need-mul-m Inv-loop μ-loop
-mul-m c = search tests
-
-element-copy-out-m : tie.Need-element-copy-out-m Inv-loop μ-loop
-element-copy-out-m c = search tests
-
-add-i : tie.Need-add-i Inv-loop μ-loop
-add-i c = search tests
-
-stays-requires : tie.Need-stays-requires Inv-loop μ-loop
-stays-requires c κs = search tests
-
-mul-out : tie.Need-mul-out Inv-loop μ-loop
-mul-out c = search tests
-
-array-set-from-out : tie.Need-array-set-from-out Inv-loop μ-loop
-array-set-from-out c = search tests
-
-add-w : tie.Need-add-w Inv-loop μ-loop
-add-w c = search tests
-
-loop-less : tie.Need-loop-less Inv-loop μ-loop
-loop-less c = search tests
 
 loop-again : tie.Need-loop-again Inv-loop μ-loop
 loop-again c = (search tests, kept-yes _ _ _ _ _ _ _ (c .before .before .before .before .loop .inv .1) (omega (arith, full (c .before .before .before .before .before))) (search tests) (sym (c .before .stays .ensures) ∙ c .if1 .taken))
 
-loop-less-2 : tie.Need-loop-less-2 Inv-loop μ-loop
-loop-less-2 c = search tests
-
 loop-again-2 : tie.Need-loop-again-2 Inv-loop μ-loop
 loop-again-2 c = (search tests, kept-no _ _ _ _ _ _ _ (c .before .before .before .before .loop .inv .1) (omega (arith, full (c .before .before .before .before .before))) (sym (c .before .stays .ensures) ∙ c .if1 .left))
-
-cast-u : tie.Need-cast-u Inv-loop μ-loop
-cast-u c = search tests
 
 returns : tie.Need-returns Inv-loop μ-loop
 unfolding sift parts
@@ -82,18 +49,18 @@ drop-spec =
     (tie.spec
     Inv-loop
     μ-loop
-    cast-n
+    (λ c. search tests)
     loop-holds
-    mul-m
-    element-copy-out-m
-    add-i
-    stays-requires
-    mul-out
-    array-set-from-out
-    add-w
-    loop-less
+    (λ c. search tests)
+    (λ c. search tests)
+    (λ c. search tests)
+    (λ c κs. search tests)
+    (λ c. search tests)
+    (λ c. search tests)
+    (λ c. search tests)
+    (λ c. search tests)
     loop-again
-    loop-less-2
+    (λ c. search tests)
     loop-again-2
-    cast-u
+    (λ c. search tests)
     returns)

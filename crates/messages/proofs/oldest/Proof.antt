@@ -17,30 +17,12 @@ Inv-loop a b n messages i₀ i = (i ≤ n) × (least (λ k. chan a b (getD messa
 abbrev μ-loop : tie.MeasureT-loop
 μ-loop a b n messages i₀ i = n - i
 
-cast-n : tie.Need-cast-n Inv-loop μ-loop
-cast-n c = search tests
-
 loop-holds : tie.Need-loop-holds Inv-loop μ-loop
 loop-holds c = (search tests, least-none _)
-
-mul-m : tie.Need-mul-m Inv-loop μ-loop
-mul-m c = search tests
-
-array-copy-out-m : tie.Need-array-copy-out-m Inv-loop μ-loop
-array-copy-out-m c = search tests
-
-in-channel-requires : tie.Need-in-channel-requires Inv-loop μ-loop
-in-channel-requires c κs = search tests
 
 returns : tie.Need-returns Inv-loop μ-loop
 unfolding oldest parts
 returns c = sym (least-found _ _ _ (search tests) (search tests) (sym (c .before .in-channel .ensures) ∙ c .if1 .taken))
-
-add-i : tie.Need-add-i Inv-loop μ-loop
-add-i c = search tests
-
-loop-less : tie.Need-loop-less Inv-loop μ-loop
-loop-less c = search tests
 
 loop-again : tie.Need-loop-again Inv-loop μ-loop
 unfolding parts
@@ -56,13 +38,13 @@ oldest-spec =
     (tie.spec
     Inv-loop
     μ-loop
-    cast-n
+    (λ c. search tests)
     loop-holds
-    mul-m
-    array-copy-out-m
-    in-channel-requires
+    (λ c. search tests)
+    (λ c. search tests)
+    (λ c κs. search tests)
     returns
-    add-i
-    loop-less
+    (λ c. search tests)
+    (λ c. search tests)
     loop-again
     returns-2)

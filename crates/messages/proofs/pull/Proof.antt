@@ -25,38 +25,11 @@ loop-holds c =
     let e = long (c .before .args .t) _ (c .before .good .0) .messages in
     (search tests, search tests, e, shift-none noMessage (c .before .args .k) (c .before .args .t .messages) (omega arith))
 
-add-ms : tie.Need-add-ms Inv-loop μ-loop
-add-ms c = search tests
-
-mul-ms : tie.Need-mul-ms Inv-loop μ-loop
-mul-ms c = search tests
-
-array-copy-out-ms : tie.Need-array-copy-out-ms Inv-loop μ-loop
-array-copy-out-ms c = search tests
-
-mul-ms-2 : tie.Need-mul-ms-2 Inv-loop μ-loop
-mul-ms-2 c = search tests
-
-array-set-from-ms : tie.Need-array-set-from-ms Inv-loop μ-loop
-array-set-from-ms c = search tests
-
-add-i : tie.Need-add-i Inv-loop μ-loop
-add-i c = search tests
-
-loop-less : tie.Need-loop-less Inv-loop μ-loop
-loop-less c = search tests
-
 loop-again : tie.Need-loop-again Inv-loop μ-loop
 loop-again c =
     let a = c .before .before .before .before .args in
     let v = c .before .before .loop in
     (search tests, search tests, search tests, shift-more noMessage (a .k) (a .t .messages) (omega arith) (v .i) (v .ms) (v .inv .3) (omega arith) (omega arith))
-
-array-set-from-ms-2 : tie.Need-array-set-from-ms-2 Inv-loop μ-loop
-array-set-from-ms-2 c = search tests
-
-sub-u : tie.Need-sub-u Inv-loop μ-loop
-sub-u c = search tests
 
 returns : tie.Need-returns Inv-loop μ-loop
 unfolding pull parts
@@ -73,14 +46,14 @@ pull-spec =
     Inv-loop
     μ-loop
     loop-holds
-    add-ms
-    mul-ms
-    array-copy-out-ms
-    mul-ms-2
-    array-set-from-ms
-    add-i
-    loop-less
+    (λ c. search tests)
+    (λ c. search tests)
+    (λ c. search tests)
+    (λ c. search tests)
+    (λ c. search tests)
+    (λ c. search tests)
+    (λ c. search tests)
     loop-again
-    array-set-from-ms-2
-    sub-u
+    (λ c. search tests)
+    (λ c. search tests)
     returns)

@@ -8,21 +8,6 @@ use Rattle.table.specs.Views.{parts}
 use Rattle.messages.proofs.send.Statement.{statement}
 use Rattle.messages.proofs.send.Tie as tie
 
-cast-to : tie.Need-cast-to
-cast-to c = search needs
-
-mul-node : tie.Need-mul-node
-mul-node c = search needs
-
-element-copy-out-node : tie.Need-element-copy-out-node
-element-copy-out-node c = search needs
-
-cast-n : tie.Need-cast-n
-cast-n c = search needs
-
-mul-m : tie.Need-mul-m
-mul-m c = search needs
-
 -- the receiver lives, so a slot is free
 room : (c : tie.Then1) → c .before .before .before .before .args .t .«in_flight» < 128
 unfolding parts
@@ -46,11 +31,11 @@ pub send-spec : {M : Type 1} → statement M
 send-spec =
     tie.close
     (tie.spec
-    cast-to
-    mul-node
-    element-copy-out-node
-    cast-n
-    mul-m
+    (λ c. search needs)
+    (λ c. search needs)
+    (λ c. search needs)
+    (λ c. search needs)
+    (λ c. search needs)
     element-set-from-m
     add-u
     returns

@@ -7,28 +7,13 @@ use Rattle.notice.specs.Notice.{noticeOf}
 use Rattle.notice.proofs.notice_number.Statement.{statement}
 use Rattle.notice.proofs.notice_number.Tie as tie
 
-mul-n : tie.Need-mul-n
-mul-n c = search needs
-
-array-copy-out-n : tie.Need-array-copy-out-n
-array-copy-out-n c = search needs
-
 returns : tie.Need-returns
 unfolding noticeOf parts
 returns c = search flags
 
-mul-d : tie.Need-mul-d
-mul-d c = search needs
-
-array-copy-out-d : tie.Need-array-copy-out-d
-array-copy-out-d c = search needs
-
 returns-2 : tie.Need-returns-2
 unfolding noticeOf parts
 returns-2 c = search flags
-
-told-at-requires : tie.Need-told-at-requires
-told-at-requires c κs = search needs
 
 returns-3 : tie.Need-returns-3
 unfolding noticeOf parts
@@ -39,4 +24,4 @@ unfolding noticeOf parts
 returns-4 c = rw (← c .before .told-at .ensures) (search flags)
 
 pub notice-number-spec : {M : Type 1} → statement M
-notice-number-spec = tie.close (tie.spec mul-n array-copy-out-n returns mul-d array-copy-out-d returns-2 told-at-requires returns-3 returns-4)
+notice-number-spec = tie.close (tie.spec (λ c. search needs) (λ c. search needs) returns (λ c. search needs) (λ c. search needs) returns-2 (λ c κs. search needs) returns-3 returns-4)

@@ -8,19 +8,13 @@ use Rattle.notice.specs.Notice.{informed, quieted}
 use Rattle.notice.proofs.quieted.Statement.{statement}
 use Rattle.notice.proofs.quieted.Tie as tie
 
-informed-requires : tie.Need-informed-requires
-informed-requires c κs = search needs
-
 reclaimed-requires : tie.Need-reclaimed-requires
 unfolding informed sift parts
 reclaimed-requires c κs = rw (c .informed .ensures) (search tests)
-
-unwaited-requires : tie.Need-unwaited-requires
-unwaited-requires c κs = search needs
 
 returns : tie.Need-returns
 unfolding quieted
 returns c = rw (c .unwaited .ensures, c .before .reclaimed .ensures, c .before .before .informed .ensures)
 
 pub quieted-spec : {M : Type 1} → statement M
-quieted-spec = tie.close (tie.spec informed-requires reclaimed-requires unwaited-requires returns)
+quieted-spec = tie.close (tie.spec (λ c κs. search needs) reclaimed-requires (λ c κs. search needs) returns)

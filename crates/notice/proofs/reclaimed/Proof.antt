@@ -7,12 +7,6 @@ use Rattle.notice.specs.Notice.{reclaimed}
 use Rattle.notice.proofs.reclaimed.Statement.{statement}
 use Rattle.notice.proofs.reclaimed.Tie as tie
 
-mul-n : tie.Need-mul-n
-mul-n c = search needs
-
-array-copy-out-n : tie.Need-array-copy-out-n
-array-copy-out-n c = search needs
-
 returned-requires : tie.Need-returned-requires
 unfolding parts
 returned-requires c κs = search tests
@@ -26,4 +20,4 @@ unfolding reclaimed parts
 returns-2 c = rw (c .if1 .left)
 
 pub reclaimed-spec : {M : Type 1} → statement M
-reclaimed-spec = tie.close (tie.spec mul-n array-copy-out-n returned-requires returns returns-2)
+reclaimed-spec = tie.close (tie.spec (λ c. search needs) (λ c. search needs) returned-requires returns returns-2)

@@ -21,36 +21,15 @@ abbrev μ-loop : tie.MeasureT-loop
 loop-holds : tie.Need-loop-holds Inv-loop μ-loop
 loop-holds c = (search tests, up-none _ _)
 
-mul-v : tie.Need-mul-v Inv-loop μ-loop
-mul-v c = search tests
-
-element-copy-out-v : tie.Need-element-copy-out-v Inv-loop μ-loop
-element-copy-out-v c = search tests
-
-add-j : tie.Need-add-j Inv-loop μ-loop
-add-j c = search tests
-
-lost-requires : tie.Need-lost-requires Inv-loop μ-loop
-lost-requires c κs = search tests
-
 add-open-on-root : tie.Need-add-open-on-root Inv-loop μ-loop
 unfolding parts
 add-open-on-root c =
     let h = c .before .before .before .before .before .before .pre (c .before .before .before .before .before .loop .j) (search tests) in
     omega arith
 
-open-on-root-requires : tie.Need-open-on-root-requires Inv-loop μ-loop
-open-on-root-requires c κs = search tests
-
-loop-less : tie.Need-loop-less Inv-loop μ-loop
-loop-less c = search tests
-
 loop-again : tie.Need-loop-again Inv-loop μ-loop
 unfolding parts
 loop-again c = (search tests, c .open-on-root .ensures ∙ reissue-lost _ _ _ _ (sym (c .before .before .before .lost .ensures) ∙ c .before .before .if1 .taken) ∙ up-more _ _ _ _ (c .before .before .before .before .before .before .loop .inv .1))
-
-loop-less-2 : tie.Need-loop-less-2 Inv-loop μ-loop
-loop-less-2 c = search tests
 
 loop-again-2 : tie.Need-loop-again-2 Inv-loop μ-loop
 unfolding parts
@@ -67,14 +46,14 @@ reissue-spec =
     Inv-loop
     μ-loop
     loop-holds
-    mul-v
-    element-copy-out-v
-    add-j
-    lost-requires
+    (λ c. search tests)
+    (λ c. search tests)
+    (λ c. search tests)
+    (λ c κs. search tests)
     add-open-on-root
-    open-on-root-requires
-    loop-less
+    (λ c κs. search tests)
+    (λ c. search tests)
     loop-again
-    loop-less-2
+    (λ c. search tests)
     loop-again-2
     returns)

@@ -8,21 +8,6 @@ use Rattle.notice.specs.Notice.{unwaited}
 use Rattle.notice.proofs.unwaited.Statement.{statement}
 use Rattle.notice.proofs.unwaited.Tie as tie
 
-mul-n : tie.Need-mul-n
-mul-n c = search needs
-
-element-copy-out-n : tie.Need-element-copy-out-n
-element-copy-out-n c = search needs
-
-add-if1 : tie.Need-add-if1
-add-if1 c = search needs
-
-mul-n-2 : tie.Need-mul-n-2
-mul-n-2 c = search needs
-
-element-set-from-n : tie.Need-element-set-from-n
-element-set-from-n c = search needs
-
 returns : tie.Need-returns
 unfolding unwaited pieces parts
 returns c = search flags
@@ -34,4 +19,4 @@ returns-2 c = search flags
 pub unwaited-spec : {M : Type 1} → statement M
 unwaited-spec =
     tie.close
-    (tie.spec mul-n element-copy-out-n add-if1 mul-n-2 element-set-from-n returns returns-2)
+    (tie.spec (λ c. search needs) (λ c. search needs) (λ c. search needs) (λ c. search needs) (λ c. search needs) returns returns-2)

@@ -22,15 +22,6 @@ Inv-loop s n out₀ i₀ out i = (n ≡ entryCount s) × (i ≤ n) × (out ≡ p
 abbrev μ-loop : tie.MeasureT-loop
 μ-loop s n out₀ i₀ out i = n - i
 
-entries-requires : tie.Need-entries-requires Inv-loop μ-loop
-entries-requires c κs = search tests
-
-cast-n : tie.Need-cast-n Inv-loop μ-loop
-cast-n c = search tests
-
-no-bonds-requires : tie.Need-no-bonds-requires Inv-loop μ-loop
-no-bonds-requires c κs = search tests
-
 -- in a turn the entry is one of the book's
 below : (c : tie.In-loop Inv-loop μ-loop) → c .before .loop .i < entryCount (c .before .before .before .before .before .args .s .now)
 below c = omega (arith, c .before .loop .inv .0)
@@ -45,17 +36,8 @@ bond-at-requires c κs =
     let e = c .before .loop .inv .0 in
     (omega arith, (omega arith, omega arith))
 
-mul-out : tie.Need-mul-out Inv-loop μ-loop
-mul-out c = search tests
-
 array-set-from-out : tie.Need-array-set-from-out Inv-loop μ-loop
 array-set-from-out c = omega (arith, below (c .before), entries-most (c .before .before .before .before .before .before .args .s .now))
-
-add-i : tie.Need-add-i Inv-loop μ-loop
-add-i c = search tests
-
-loop-less : tie.Need-loop-less Inv-loop μ-loop
-loop-less c = search tests
 
 loop-again : tie.Need-loop-again Inv-loop μ-loop
 loop-again c =
@@ -78,14 +60,14 @@ bonds-spec =
     (tie.spec
     Inv-loop
     μ-loop
-    entries-requires
-    cast-n
-    no-bonds-requires
+    (λ c κs. search tests)
+    (λ c. search tests)
+    (λ c κs. search tests)
     loop-holds
     bond-at-requires
-    mul-out
+    (λ c. search tests)
     array-set-from-out
-    add-i
-    loop-less
+    (λ c. search tests)
+    (λ c. search tests)
     loop-again
     returns)

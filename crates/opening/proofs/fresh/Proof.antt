@@ -9,21 +9,6 @@ use Rattle.opening.proofs.Counts.{machines-most}
 use Rattle.opening.proofs.fresh.Statement.{statement}
 use Rattle.opening.proofs.fresh.Tie as tie
 
-machines-requires : tie.Need-machines-requires
-machines-requires c κs = search needs
-
-entries-requires : tie.Need-entries-requires
-entries-requires c κs = search needs
-
-bonds-requires : tie.Need-bonds-requires
-bonds-requires c κs = search needs
-
-machine-requires : tie.Need-machine-requires
-machine-requires c κs = search needs
-
-blank-requires : tie.Need-blank-requires
-blank-requires c κs = search needs
-
 with-machines-requires : tie.Need-with-machines-requires
 with-machines-requires c κs = omega (arith, c .before .before .before .before .machines .ensures, machines-most (c .before .before .before .before .before .before .args .s .now))
 
@@ -38,10 +23,10 @@ pub fresh-spec : {M : Type 1} → statement M
 fresh-spec =
     tie.close
     (tie.spec
-    machines-requires
-    entries-requires
-    bonds-requires
-    machine-requires
-    blank-requires
+    (λ c κs. search needs)
+    (λ c κs. search needs)
+    (λ c κs. search needs)
+    (λ c κs. search needs)
+    (λ c κs. search needs)
     with-machines-requires
     returns)

@@ -20,21 +20,6 @@ abbrev μ-loop : tie.MeasureT-loop
 loop-holds : tie.Need-loop-holds Inv-loop μ-loop
 loop-holds c = (search tests, search tests, up-none revive _)
 
-machine-requires : tie.Need-machine-requires Inv-loop μ-loop
-machine-requires c κs = search tests
-
-mul-t8 : tie.Need-mul-t8 Inv-loop μ-loop
-mul-t8 c = search tests
-
-element-set-from-u : tie.Need-element-set-from-u Inv-loop μ-loop
-element-set-from-u c = search tests
-
-add-i : tie.Need-add-i Inv-loop μ-loop
-add-i c = search tests
-
-loop-less : tie.Need-loop-less Inv-loop μ-loop
-loop-less c = search tests
-
 loop-again : tie.Need-loop-again Inv-loop μ-loop
 unfolding parts
 loop-again c =
@@ -51,10 +36,10 @@ with-machines-spec =
     Inv-loop
     μ-loop
     loop-holds
-    machine-requires
-    mul-t8
-    element-set-from-u
-    add-i
-    loop-less
+    (λ c κs. search tests)
+    (λ c. search tests)
+    (λ c. search tests)
+    (λ c. search tests)
+    (λ c. search tests)
     loop-again
     returns)

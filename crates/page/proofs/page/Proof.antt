@@ -19,18 +19,9 @@ returns c =
     let q = short-buffer (a .book .now) (a .events .now) (a .out .now) (c .if1 .taken) in
     (p, (q, front-reported (a .book .now) (a .events .now) (a .out .now) _ _ p q))
 
-verdict-requires : tie.Need-verdict-requires
-verdict-requires c κs = search needs
-
-cast-put-book-refused : tie.Need-cast-put-book-refused
-cast-put-book-refused c = search needs
-
 put-book-refused-requires : tie.Need-put-book-refused-requires
 put-book-refused-requires c κs =
     (omega arith, omega (arith, verdict-small (c .before .before .before .before .before .before .before .args .book .now), c .before .before .verdict .ensures))
-
-same-length : tie.Need-same-length
-same-length c = search needs
 
 returns-2 : tie.Need-returns-2
 returns-2 c =
@@ -42,12 +33,6 @@ returns-2 c =
     let q = page-buffer (a .book .now) (a .events .now) (a .out .now) h _ _ w in
     (p, (q, front-reported (a .book .now) (a .events .now) (a .out .now) _ _ p q))
 
-fresh-requires : tie.Need-fresh-requires
-fresh-requires c κs = search needs
-
-first-bytes-requires : tie.Need-first-bytes-requires
-first-bytes-requires c κs = search needs
-
 put-run-requires : tie.Need-put-run-requires
 put-run-requires c κs =
     let a = c .before .before .before .before .before .before .before .before .before .args in
@@ -56,9 +41,6 @@ put-run-requires c κs =
       ap tableOk (c .before .before .fresh .ensures) ∙ fresh-passes (a .book .now) (omega (arith, v .ensures)),
       (omega (arith, f, length-take bytesMost (a .events .now)), omega arith),
     )
-
-same-length-2 : tie.Need-same-length-2
-same-length-2 c = search needs
 
 returns-3 : tie.Need-returns-3
 returns-3 c =
@@ -77,13 +59,13 @@ page-spec =
     tie.close
     (tie.spec
     returns
-    verdict-requires
-    cast-put-book-refused
+    (λ c κs. search needs)
+    (λ c. search needs)
     put-book-refused-requires
-    same-length
+    (λ c. search needs)
     returns-2
-    fresh-requires
-    first-bytes-requires
+    (λ c κs. search needs)
+    (λ c κs. search needs)
     put-run-requires
-    same-length-2
+    (λ c. search needs)
     returns-3)

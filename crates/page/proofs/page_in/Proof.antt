@@ -9,15 +9,6 @@ use borrow.Author.Needs.{needs}
 use Rattle.page.proofs.page_in.Statement.{statement}
 use Rattle.page.proofs.page_in.Tie as tie
 
-page-requires : tie.Need-page-requires
-page-requires c κs = search needs
-
-sub-result : tie.Need-sub-result
-sub-result c = search needs
-
-part-out-start : tie.Need-part-out-start
-part-out-start c = search needs
-
 part-out-end : tie.Need-part-out-end
 part-out-end c =
     let a = c .before .before .before .before .before .before .before .args in
@@ -34,4 +25,4 @@ returns c =
     page-part book events out (s .pre) _ _ (sub-zero _ ∙ n) (e .1 .0)
 
 pub page-in-spec : {M : Type 1} → statement M
-page-in-spec = tie.close (tie.spec page-requires sub-result part-out-start part-out-end returns)
+page-in-spec = tie.close (tie.spec (λ c κs. search needs) (λ c. search needs) (λ c. search needs) part-out-end returns)

@@ -24,12 +24,6 @@ Inv-loop book out₀ at t n end₀ i₀ out end i = (i ≤ n) × (length out ≡
 abbrev μ-loop : tie.MeasureT-loop
 μ-loop book out₀ at t n end₀ i₀ out end i = n - i
 
-entries-requires : tie.Need-entries-requires Inv-loop μ-loop
-entries-requires c κs = search needs
-
-cast-n : tie.Need-cast-n Inv-loop μ-loop
-cast-n c = search needs
-
 loop-holds : tie.Need-loop-holds Inv-loop μ-loop
 loop-holds c = let a = c .before .before .before .args in (omega arith, refl, joined-none (lineOf (a .book .now) (a .t2)) (a .out .now) (a .at) (omega arith))
 
@@ -64,12 +58,6 @@ put-entry-requires c κs =
       replica-small (a .book .now) (a .t2) z (s .pre .0) (l .i) (omega arith),
     )
 
-add-i : tie.Need-add-i Inv-loop μ-loop
-add-i c = search needs
-
-loop-less : tie.Need-loop-less Inv-loop μ-loop
-loop-less c = search needs
-
 loop-again : tie.Need-loop-again Inv-loop μ-loop
 unfolding jobAt
 loop-again c =
@@ -86,9 +74,6 @@ loop-again c =
           (omega (arith, s .pre .1, lines-most (a .book .now) (a .t2) z (s .pre .0) (l .i + 1) (omega arith))),
     )
 
-same-length : tie.Need-same-length Inv-loop μ-loop
-same-length c = search needs
-
 returns : tie.Need-returns Inv-loop μ-loop
 unfolding entriesText
 returns c =
@@ -103,15 +88,15 @@ put-entries-spec =
     (tie.spec
     Inv-loop
     μ-loop
-    entries-requires
-    cast-n
+    (λ c κs. search needs)
+    (λ c. search needs)
     loop-holds
     mul-v
     element-copy-out-v
     identifier-at-requires
     put-entry-requires
-    add-i
-    loop-less
+    (λ c. search needs)
+    (λ c. search needs)
     loop-again
-    same-length
+    (λ c. search needs)
     returns)

@@ -9,9 +9,6 @@ use borrow.Author.Needs.{needs}
 use Rattle.page.proofs.put_run.Statement.{statement}
 use Rattle.page.proofs.put_run.Tie as tie
 
-run-requires : tie.Need-run-requires
-run-requires c κs = search needs
-
 put-entries-requires : tie.Need-put-entries-requires
 put-entries-requires c κs =
     let s = c .before .before .before .before .before .before .before .before .before in
@@ -20,9 +17,6 @@ put-entries-requires c κs =
       rw (r .ensures .table) (run-passes (a .t) (eventsIn (a .events .now)) (long (a .t) _ (s .good .1 .0)) (s .pre .0)),
       omega (arith, r .ensures .lines .end, listed-most (a .t) (a .events .now) (s .pre .1 .0), s .pre .1 .1),
     )
-
-same-length : tie.Need-same-length
-same-length c = search needs
 
 returns : tie.Need-returns
 returns c =
@@ -33,4 +27,4 @@ returns c =
     run-written (a .book .now) (a .t) (eventsIn (a .events .now)) (c .before .before .before .before .before .before .before .run .ensures) (c .before .before .put-entries .ensures) (omega (arith, n, s .pre .1 .1))
 
 pub put-run-spec : {M : Type 1} → statement M
-put-run-spec = tie.close (tie.spec run-requires put-entries-requires same-length returns)
+put-run-spec = tie.close (tie.spec (λ c κs. search needs) put-entries-requires (λ c. search needs) returns)

@@ -20,27 +20,12 @@ Inv-loop m base pools j₀ j = (j ≤ 64) × (least (λ k. not (eqb (getD pools 
 abbrev μ-loop : tie.MeasureT-loop
 μ-loop m base pools j₀ j = 64 - j
 
-mul-base : tie.Need-mul-base Inv-loop μ-loop
-mul-base c = search tests
-
 loop-holds : tie.Need-loop-holds Inv-loop μ-loop
 loop-holds c = (search tests, least-none _)
-
-add-x : tie.Need-add-x Inv-loop μ-loop
-add-x c = search tests
-
-array-read-x : tie.Need-array-read-x Inv-loop μ-loop
-array-read-x c = search tests
 
 returns : tie.Need-returns Inv-loop μ-loop
 unfolding lowest parts
 returns c = sym (least-found _ _ _ (search tests) (search tests) (ap not (ne-eqb _ _ (c .if1 .taken))))
-
-add-j : tie.Need-add-j Inv-loop μ-loop
-add-j c = search tests
-
-loop-less : tie.Need-loop-less Inv-loop μ-loop
-loop-less c = search tests
 
 loop-again : tie.Need-loop-again Inv-loop μ-loop
 unfolding parts
@@ -56,12 +41,12 @@ lowest-spec =
     (tie.spec
     Inv-loop
     μ-loop
-    mul-base
+    (λ c. search tests)
     loop-holds
-    add-x
-    array-read-x
+    (λ c. search tests)
+    (λ c. search tests)
     returns
-    add-j
-    loop-less
+    (λ c. search tests)
+    (λ c. search tests)
     loop-again
     returns-2)

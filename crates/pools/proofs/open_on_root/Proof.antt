@@ -7,18 +7,9 @@ use Rattle.table.specs.Views.{parts}
 use Rattle.pools.proofs.open_on_root.Statement.{statement}
 use Rattle.pools.proofs.open_on_root.Tie as tie
 
-mul-t6 : tie.Need-mul-t6
-mul-t6 c = search needs
-
-element-set-from-u : tie.Need-element-set-from-u
-element-set-from-u c = search needs
-
-enter-requires : tie.Need-enter-requires
-enter-requires c κs = search needs
-
 returns : tie.Need-returns
 unfolding pieces parts
 returns c = search flags
 
 pub open-on-root-spec : {M : Type 1} → statement M
-open-on-root-spec = tie.close (tie.spec mul-t6 element-set-from-u enter-requires returns)
+open-on-root-spec = tie.close (tie.spec (λ c. search needs) (λ c. search needs) (λ c κs. search needs) returns)

@@ -16,23 +16,8 @@ Inv-loop m base u₀ j₀ u j = (j ≤ 64) × (u ≡ upTo (λ k v. withPool v m 
 abbrev μ-loop : tie.MeasureT-loop
 μ-loop m base u₀ j₀ u j = 64 - j
 
-mul-base : tie.Need-mul-base Inv-loop μ-loop
-mul-base c = search tests
-
 loop-holds : tie.Need-loop-holds Inv-loop μ-loop
 loop-holds c = (search tests, up-none _ _)
-
-add-u : tie.Need-add-u Inv-loop μ-loop
-add-u c = search tests
-
-element-write-u : tie.Need-element-write-u Inv-loop μ-loop
-element-write-u c = search tests
-
-add-j : tie.Need-add-j Inv-loop μ-loop
-add-j c = search tests
-
-loop-less : tie.Need-loop-less Inv-loop μ-loop
-loop-less c = search tests
 
 loop-again : tie.Need-loop-again Inv-loop μ-loop
 unfolding parts
@@ -48,11 +33,11 @@ wipe-spec =
     (tie.spec
     Inv-loop
     μ-loop
-    mul-base
+    (λ c. search tests)
     loop-holds
-    add-u
-    element-write-u
-    add-j
-    loop-less
+    (λ c. search tests)
+    (λ c. search tests)
+    (λ c. search tests)
+    (λ c. search tests)
     loop-again
     returns)

@@ -4,12 +4,9 @@ use borrow.Author.Needs.{needs}
 use Rattle.pricer.proofs.in_range.Statement.{statement}
 use Rattle.pricer.proofs.in_range.Tie as tie
 
-terms-in-range-requires : tie.Need-terms-in-range-requires
-terms-in-range-requires c κs = search needs
-
 returns : tie.Need-returns
 unfolding inRange
 returns c = cc
 
 pub in-range-spec : {M : Type 1} → statement M
-in-range-spec = tie.close (tie.spec terms-in-range-requires returns)
+in-range-spec = tie.close (tie.spec (λ c κs. search needs) returns)

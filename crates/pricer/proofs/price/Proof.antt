@@ -5,18 +5,6 @@ use borrow.Author.Needs.{needs}
 use Rattle.pricer.proofs.price.Statement.{statement}
 use Rattle.pricer.proofs.price.Tie as tie
 
-enum-known-t : tie.Need-enum-known-t
-enum-known-t c = search needs
-
-price-zero-requires : tie.Need-price-zero-requires
-price-zero-requires c κs = search needs
-
-enum-known-t-2 : tie.Need-enum-known-t-2
-enum-known-t-2 c = search needs
-
-price-fixed-requires : tie.Need-price-fixed-requires
-price-fixed-requires c κs = search needs
-
 returns : tie.Need-returns
 unfolding priceOf
 returns c = cc
@@ -29,9 +17,9 @@ pub price-spec : {M : Type 1} → statement M
 price-spec =
     tie.close
     (tie.spec
-    enum-known-t
-    price-zero-requires
-    enum-known-t-2
-    price-fixed-requires
+    (λ c. search needs)
+    (λ c κs. search needs)
+    (λ c. search needs)
+    (λ c κs. search needs)
     returns
     returns-2)

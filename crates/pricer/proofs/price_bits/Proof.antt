@@ -4,15 +4,9 @@ use borrow.Author.Needs.{needs}
 use Rattle.pricer.proofs.price_bits.Statement.{statement}
 use Rattle.pricer.proofs.price_bits.Tie as tie
 
-price-requires : tie.Need-price-requires
-price-requires c κs = search needs
-
-bits-requires : tie.Need-bits-requires
-bits-requires c κs = search needs
-
 returns : tie.Need-returns
 unfolding priceBits
 returns c = cc
 
 pub price-bits-spec : {M : Type 1} → statement M
-price-bits-spec = tie.close (tie.spec price-requires bits-requires returns)
+price-bits-spec = tie.close (tie.spec (λ c κs. search needs) (λ c κs. search needs) returns)

@@ -4,15 +4,6 @@ use Rattle.rakhvide_c.specs.Terms.{termBits}
 use Rattle.rakhvide_c.proofs.bits_of.Statement.{statement}
 use Rattle.rakhvide_c.proofs.bits_of.Tie as tie
 
-enum-told : tie.Need-enum-told
-enum-told c = search needs
-
-enum-known-r : tie.Need-enum-known-r
-enum-known-r c = search needs
-
-price-bits-requires : tie.Need-price-bits-requires
-price-bits-requires c κs = search needs
-
 returns : tie.Need-returns
 unfolding termBits
 returns c = cc
@@ -22,4 +13,4 @@ unfolding termBits
 returns-2 c = cc
 
 pub bits-of-spec : {M : Type 1} → statement M
-bits-of-spec = tie.close (tie.spec enum-told enum-known-r price-bits-requires returns returns-2)
+bits-of-spec = tie.close (tie.spec (λ c. search needs) (λ c. search needs) (λ c κs. search needs) returns returns-2)

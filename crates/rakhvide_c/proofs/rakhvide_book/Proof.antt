@@ -3,11 +3,8 @@ use borrow.Author.Needs.{needs}
 use Rattle.rakhvide_c.proofs.rakhvide_book.Statement.{statement}
 use Rattle.rakhvide_c.proofs.rakhvide_book.Tie as tie
 
-verdict-requires : tie.Need-verdict-requires
-verdict-requires c κs = search needs
-
 returns : tie.Need-returns
 returns c = cc
 
 pub rakhvide-book-spec : {M : Type 1} → statement M
-rakhvide-book-spec = tie.close (tie.spec verdict-requires returns)
+rakhvide-book-spec = tie.close (tie.spec (λ c κs. search needs) returns)

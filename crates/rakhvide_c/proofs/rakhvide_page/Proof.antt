@@ -3,14 +3,8 @@ use borrow.Author.Needs.{needs}
 use Rattle.rakhvide_c.proofs.rakhvide_page.Statement.{statement}
 use Rattle.rakhvide_c.proofs.rakhvide_page.Tie as tie
 
-page-requires : tie.Need-page-requires
-page-requires c κs = search needs
-
-same-length : tie.Need-same-length
-same-length c = search needs
-
 returns : tie.Need-returns
 returns c = (cc, (cc, (search needs, c .before .before .page .ensures .1 .1)))
 
 pub rakhvide-page-spec : {M : Type 1} → statement M
-rakhvide-page-spec = tie.close (tie.spec page-requires same-length returns)
+rakhvide-page-spec = tie.close (tie.spec (λ c κs. search needs) (λ c. search needs) returns)

@@ -4,12 +4,9 @@ use borrow.Author.Needs.{needs}
 use Rattle.rakhvide_c.proofs.rakhvide_price_fixed.Statement.{statement}
 use Rattle.rakhvide_c.proofs.rakhvide_price_fixed.Tie as tie
 
-price-bits-requires : tie.Need-price-bits-requires
-price-bits-requires c κs = search needs
-
 returns : tie.Need-returns
 unfolding priceOf priceBits
 returns c = c .price-bits .ensures
 
 pub rakhvide-price-fixed-spec : {M : Type 1} → statement M
-rakhvide-price-fixed-spec = tie.close (tie.spec price-bits-requires returns)
+rakhvide-price-fixed-spec = tie.close (tie.spec (λ c κs. search needs) returns)

@@ -4,12 +4,9 @@ use borrow.Author.Needs.{needs}
 use Rattle.rakhvide_c.proofs.rakhvide_price_zero.Statement.{statement}
 use Rattle.rakhvide_c.proofs.rakhvide_price_zero.Tie as tie
 
-price-bits-requires : tie.Need-price-bits-requires
-price-bits-requires c κs = search needs
-
 returns : tie.Need-returns
 unfolding priceOf priceBits
 returns c = c .price-bits .ensures
 
 pub rakhvide-price-zero-spec : {M : Type 1} → statement M
-rakhvide-price-zero-spec = tie.close (tie.spec price-bits-requires returns)
+rakhvide-price-zero-spec = tie.close (tie.spec (λ c κs. search needs) returns)

@@ -37,32 +37,17 @@ answered c =
     let l = c .before .before .before in
     c .number .ensures ∙ ap (λ (x : List ℕ). answerOf (l .loop .table) x .number) (c .before .event-at .ensures)
 
-add-n : tie.Need-add-n Inv-loop μ-loop
-add-n c = search needs
-
 loop-holds : tie.Need-loop-holds Inv-loop μ-loop
 loop-holds c = let a = c .before .before .args in (omega arith, refl, turn-none (a .t) (a .s .now) (a .out .now))
 
-add-k : tie.Need-add-k Inv-loop μ-loop
-add-k c = search needs
-
-event-at-requires : tie.Need-event-at-requires Inv-loop μ-loop
-event-at-requires c κs = search needs
-
 number-requires : tie.Need-number-requires Inv-loop μ-loop
 number-requires c κs = passed (c .before)
-
-event-at-requires-2 : tie.Need-event-at-requires-2 Inv-loop μ-loop
-event-at-requires-2 c κs = search needs
 
 next-requires : tie.Need-next-requires Inv-loop μ-loop
 next-requires c κs =
     let m = c .before .before in
     let u = m .before .before .before .loop .table in
     (passed (m .before .before), ap (λ (x : List ℕ). answerOf u x .number) (c .event-at2 .ensures) ∙ sym (answered m) ∙ c .before .if1 .taken)
-
-loop-less : tie.Need-loop-less Inv-loop μ-loop
-loop-less c = search needs
 
 loop-again : tie.Need-loop-again Inv-loop μ-loop
 loop-again c =
@@ -75,21 +60,12 @@ loop-again c =
     let y = listed-none (l .out) (l .at) (l .k + 1) (l .table) e (passed (m .before .before)) (m .number .result) (answered m) (c .next .result) (c .before .before .if1 .taken) w in
     (omega arith, l .inv .1, turn-more (a .t) (a .s .now) (a .out .now) (l .k) (l .at) (l .table) (l .out) (l .out) _ (l .inv .2) y (omega (arith, s .pre .1 .0, s .pre .1 .1)))
 
-add-put-event-refused : tie.Need-add-put-event-refused Inv-loop μ-loop
-add-put-event-refused c = search needs
-
-cast-put-event-refused : tie.Need-cast-put-event-refused Inv-loop μ-loop
-cast-put-event-refused c = search needs
-
 put-event-refused-requires : tie.Need-put-event-refused-requires Inv-loop μ-loop
 put-event-refused-requires c κs =
     let m = c .before .before in
     let l = m .before .before .before .loop in
     let e = eventAt (m .before .before .before .before .before .before .args .s .now) (l .k) in
     (omega (arith, l .inv .2 .most), two-digit-number (l .out) (l .at) (l .k + 1) (l .table) e (passed (m .before .before)) (m .number .result) (answered m))
-
-loop-less-2 : tie.Need-loop-less-2 Inv-loop μ-loop
-loop-less-2 c = search needs
 
 loop-again-2 : tie.Need-loop-again-2 Inv-loop μ-loop
 loop-again-2 c =
@@ -101,9 +77,6 @@ loop-again-2 c =
     let w = c .before .before .put-event-refused in
     let y = listed-some (l .out) (l .at) (l .k + 1) (l .table) e (passed (m .before .before)) (m .number .result) (answered m) _ _ (c .before .before .before .before .if1 .left) (w .ensures) in
     (omega arith, w .kept .0 ∙ l .inv .1, turn-more (a .t) (a .s .now) (a .out .now) (l .k) (l .at) (l .table) (l .out) _ _ (l .inv .2) y (omega (arith, s .pre .1 .0, s .pre .1 .1)))
-
-same-length : tie.Need-same-length Inv-loop μ-loop
-same-length c = search needs
 
 returns : tie.Need-returns Inv-loop μ-loop
 returns c =
@@ -117,19 +90,19 @@ run-spec =
     (tie.spec
     Inv-loop
     μ-loop
-    add-n
+    (λ c. search needs)
     loop-holds
-    add-k
-    event-at-requires
+    (λ c. search needs)
+    (λ c κs. search needs)
     number-requires
-    event-at-requires-2
+    (λ c κs. search needs)
     next-requires
-    loop-less
+    (λ c. search needs)
     loop-again
-    add-put-event-refused
-    cast-put-event-refused
+    (λ c. search needs)
+    (λ c. search needs)
     put-event-refused-requires
-    loop-less-2
+    (λ c. search needs)
     loop-again-2
-    same-length
+    (λ c. search needs)
     returns)

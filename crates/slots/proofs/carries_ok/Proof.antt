@@ -4,14 +4,8 @@ use borrow.Author.Needs.{needs}
 use Rattle.slots.proofs.carries_ok.Statement.{statement}
 use Rattle.slots.proofs.carries_ok.Tie as tie
 
-with-copy-requires : tie.Need-with-copy-requires
-with-copy-requires c κs = search needs
-
-copy-ok-requires : tie.Need-copy-ok-requires
-copy-ok-requires c κs = search needs
-
 returns : tie.Need-returns
 returns c = cc
 
 pub carries-ok-spec : {M : Type 1} → statement M
-carries-ok-spec = tie.close (tie.spec with-copy-requires copy-ok-requires returns)
+carries-ok-spec = tie.close (tie.spec (λ c κs. search needs) (λ c κs. search needs) returns)

@@ -4,11 +4,8 @@ use borrow.Author.Needs.{needs}
 use Rattle.slots.proofs.ends_ok.Statement.{statement}
 use Rattle.slots.proofs.ends_ok.Tie as tie
 
-to-root-requires : tie.Need-to-root-requires
-to-root-requires c κs = search needs
-
 returns : tie.Need-returns
 returns c = cc
 
 pub ends-ok-spec : {M : Type 1} → statement M
-ends-ok-spec = tie.close (tie.spec to-root-requires returns)
+ends-ok-spec = tie.close (tie.spec (λ c κs. search needs) returns)

@@ -6,17 +6,11 @@ use borrow.Author.Needs.{needs}
 use Rattle.slots.proofs.slot_ok.Statement.{statement}
 use Rattle.slots.proofs.slot_ok.Tie as tie
 
-empty-message-requires : tie.Need-empty-message-requires
-empty-message-requires c κs = search needs
-
 returns : tie.Need-returns
 returns c = rw (c .empty-message .ensures) (search flags)
-
-message-ok-requires : tie.Need-message-ok-requires
-message-ok-requires c κs = search needs
 
 returns-2 : tie.Need-returns-2
 returns-2 c = rw (c .message-ok .ensures, lt-leb _ _ (c .before .if1 .left))
 
 pub slot-ok-spec : {M : Type 1} → statement M
-slot-ok-spec = tie.close (tie.spec empty-message-requires returns message-ok-requires returns-2)
+slot-ok-spec = tie.close (tie.spec (λ c κs. search needs) returns (λ c κs. search needs) returns-2)

@@ -4,11 +4,8 @@ use borrow.Author.Needs.{needs}
 use Rattle.slots.proofs.thief_ok.Statement.{statement}
 use Rattle.slots.proofs.thief_ok.Tie as tie
 
-with-thief-requires : tie.Need-with-thief-requires
-with-thief-requires c κs = search needs
-
 returns : tie.Need-returns
 returns c = cc
 
 pub thief-ok-spec : {M : Type 1} → statement M
-thief-ok-spec = tie.close (tie.spec with-thief-requires returns)
+thief-ok-spec = tie.close (tie.spec (λ c κs. search needs) returns)

@@ -7,12 +7,6 @@ use Rattle.steal.specs.Steal.{stealOf}
 use Rattle.steal.proofs.steal_number.Statement.{statement}
 use Rattle.steal.proofs.steal_number.Tie as tie
 
-mul-n : tie.Need-mul-n
-mul-n c = search needs
-
-array-copy-out-n : tie.Need-array-copy-out-n
-array-copy-out-n c = search needs
-
 returns : tie.Need-returns
 unfolding stealOf parts
 returns c = search flags
@@ -24,9 +18,6 @@ returns-2 c = search flags
 returns-3 : tie.Need-returns-3
 unfolding stealOf parts
 returns-3 c = search flags
-
-told-at-requires : tie.Need-told-at-requires
-told-at-requires c κs = search needs
 
 returns-4 : tie.Need-returns-4
 unfolding stealOf parts
@@ -41,4 +32,4 @@ unfolding stealOf parts
 returns-6 c = rw (← c .before .before .told-at .ensures) (search flags)
 
 pub steal-number-spec : {M : Type 1} → statement M
-steal-number-spec = tie.close (tie.spec mul-n array-copy-out-n returns returns-2 returns-3 told-at-requires returns-4 returns-5 returns-6)
+steal-number-spec = tie.close (tie.spec (λ c. search needs) (λ c. search needs) returns returns-2 returns-3 (λ c κs. search needs) returns-4 returns-5 returns-6)

@@ -11,21 +11,6 @@ use Rattle.steal.specs.Steal.{stolen}
 use Rattle.steal.proofs.stolen.Statement.{statement}
 use Rattle.steal.proofs.stolen.Tie as tie
 
-mul-n : tie.Need-mul-n
-mul-n c = search needs
-
-element-copy-out-n : tie.Need-element-copy-out-n
-element-copy-out-n c = search needs
-
-add-n : tie.Need-add-n
-add-n c = search needs
-
-mul-n-2 : tie.Need-mul-n-2
-mul-n-2 c = search needs
-
-element-set-from-n : tie.Need-element-set-from-n
-element-set-from-n c = search needs
-
 send-requires : tie.Need-send-requires
 unfolding waiting parts
 send-requires c κs =
@@ -40,4 +25,4 @@ returns c = search flags
 pub stolen-spec : {M : Type 1} → statement M
 stolen-spec =
     tie.close
-    (tie.spec mul-n element-copy-out-n add-n mul-n-2 element-set-from-n send-requires returns)
+    (tie.spec (λ c. search needs) (λ c. search needs) (λ c. search needs) (λ c. search needs) (λ c. search needs) send-requires returns)

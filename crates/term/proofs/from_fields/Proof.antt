@@ -7,9 +7,6 @@ use borrow.Author.Needs.{needs}
 use Rattle.term.proofs.from_fields.Statement.{statement}
 use Rattle.term.proofs.from_fields.Tie as tie
 
-is-nan-requires : tie.Need-is-nan-requires
-is-nan-requires c κs = search needs
-
 returns : tie.Need-returns
 returns c = sym (yield-refused _ _ _ (sym (c .before .is-nan .ensures) ∙ c .if1 .taken) _)
 
@@ -20,12 +17,6 @@ returns-2 : tie.Need-returns-2
 unfolding termFrom
 returns-2 c = search flags
 
-with-terms-requires : tie.Need-with-terms-requires
-with-terms-requires c κs = search needs
-
-in-rules-requires : tie.Need-in-rules-requires
-in-rules-requires c κs = search needs
-
 returns-3 : tie.Need-returns-3
 unfolding termFrom
 returns-3 c = rw (c .in-rules .ensures, c .before .with-terms .ensures) (search flags)
@@ -34,21 +25,12 @@ returns-4 : tie.Need-returns-4
 unfolding termFrom
 returns-4 c = search flags
 
-is-nan-requires-2 : tie.Need-is-nan-requires-2
-is-nan-requires-2 c κs = search needs
-
 returns-5 : tie.Need-returns-5
 unfolding termFrom
 returns-5 c = rw (coupon-refused _ _ _ (sym (c .before .is-nan2 .ensures) ∙ c .if5 .taken)) (search flags)
 
 float-from-bits-c : tie.Need-float-from-bits-c
 float-from-bits-c c = number _ _ (c .before .is-nan2 .ensures) (c .if5 .left)
-
-with-terms-requires-2 : tie.Need-with-terms-requires-2
-with-terms-requires-2 c κs = search needs
-
-in-rules-requires-2 : tie.Need-in-rules-requires-2
-in-rules-requires-2 c κs = search needs
 
 returns-6 : tie.Need-returns-6
 unfolding termFrom
@@ -58,17 +40,17 @@ pub from-fields-spec : {M : Type 1} → statement M
 from-fields-spec =
     tie.close
     (tie.spec
-    is-nan-requires
+    (λ c κs. search needs)
     returns
     float-from-bits-y
     returns-2
-    with-terms-requires
-    in-rules-requires
+    (λ c κs. search needs)
+    (λ c κs. search needs)
     returns-3
     returns-4
-    is-nan-requires-2
+    (λ c κs. search needs)
     returns-5
     float-from-bits-c
-    with-terms-requires-2
-    in-rules-requires-2
+    (λ c κs. search needs)
+    (λ c κs. search needs)
     returns-6)

@@ -5,9 +5,6 @@ use borrow.Author.Needs.{needs}
 use Rattle.term.proofs.in_rules.Statement.{statement}
 use Rattle.term.proofs.in_rules.Tie as tie
 
-in-range-requires : tie.Need-in-range-requires
-in-range-requires c κs = search needs
-
 returns : tie.Need-returns
 unfolding checked
 returns c = rw (sym (c .before .in-range .ensures) ∙ c .if1 .taken)
@@ -17,4 +14,4 @@ unfolding checked
 returns-2 c = rw (sym (c .before .in-range .ensures) ∙ c .if1 .left)
 
 pub in-rules-spec : {M : Type 1} → statement M
-in-rules-spec = tie.close (tie.spec in-range-requires returns returns-2)
+in-rules-spec = tie.close (tie.spec (λ c κs. search needs) returns returns-2)

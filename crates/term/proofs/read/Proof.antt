@@ -10,27 +10,9 @@ returns : tie.Need-returns
 unfolding termOf
 returns c = search flags
 
-shared-slice-read-if2 : tie.Need-shared-slice-read-if2
-shared-slice-read-if2 c = search needs
-
 returns-2 : tie.Need-returns-2
 unfolding termOf
 returns-2 c = search flags
-
-shared-slice-read-bare : tie.Need-shared-slice-read-bare
-shared-slice-read-bare c = search needs
-
-shared-slice-read-from-fields : tie.Need-shared-slice-read-from-fields
-shared-slice-read-from-fields c = search needs
-
-u64-at-requires : tie.Need-u64-at-requires
-u64-at-requires c κs = search needs
-
-u64-at-requires-2 : tie.Need-u64-at-requires-2
-u64-at-requires-2 c κs = search needs
-
-from-fields-requires : tie.Need-from-fields-requires
-from-fields-requires c κs = search needs
 
 returns-3 : tie.Need-returns-3
 unfolding termOf ofBits
@@ -41,11 +23,11 @@ read-spec =
     tie.close
     (tie.spec
     returns
-    shared-slice-read-if2
+    (λ c. search needs)
     returns-2
-    shared-slice-read-bare
-    shared-slice-read-from-fields
-    u64-at-requires
-    u64-at-requires-2
-    from-fields-requires
+    (λ c. search needs)
+    (λ c. search needs)
+    (λ c κs. search needs)
+    (λ c κs. search needs)
+    (λ c κs. search needs)
     returns-3)

@@ -4,15 +4,9 @@ use borrow.Author.Needs.{needs}
 use Rattle.text.proofs.put_hex.Statement.{statement}
 use Rattle.text.proofs.put_hex.Tie as tie
 
-put-digits-requires : tie.Need-put-digits-requires
-put-digits-requires c κs = search needs
-
-same-length : tie.Need-same-length
-same-length c = search needs
-
 returns : tie.Need-returns
 unfolding hex16
 returns c = c .before .before .put-digits .ensures
 
 pub put-hex-spec : {M : Type 1} → statement M
-put-hex-spec = tie.close (tie.spec put-digits-requires same-length returns)
+put-hex-spec = tie.close (tie.spec (λ c κs. search needs) (λ c. search needs) returns)

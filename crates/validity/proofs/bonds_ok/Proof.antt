@@ -23,27 +23,9 @@ abbrev μ-loop : tie.MeasureT-loop
 loop-holds : tie.Need-loop-holds Inv-loop μ-loop
 loop-holds c = (search tests, all-none _)
 
-mul-x : tie.Need-mul-x Inv-loop μ-loop
-mul-x c = search tests
-
-array-copy-out-x : tie.Need-array-copy-out-x Inv-loop μ-loop
-array-copy-out-x c = search tests
-
-cast-bond-ok : tie.Need-cast-bond-ok Inv-loop μ-loop
-cast-bond-ok c = search tests
-
-bond-ok-requires : tie.Need-bond-ok-requires Inv-loop μ-loop
-bond-ok-requires c κs = search tests
-
 returns : tie.Need-returns Inv-loop μ-loop
 unfolding bondsOk parts
 returns c = sym (all-fail _ _ _ (search tests) (sym (c .before .bond-ok .ensures) ∙ not-true _ (c .if1 .taken)))
-
-add-i : tie.Need-add-i Inv-loop μ-loop
-add-i c = search tests
-
-loop-less : tie.Need-loop-less Inv-loop μ-loop
-loop-less c = search tests
 
 loop-again : tie.Need-loop-again Inv-loop μ-loop
 unfolding parts
@@ -60,12 +42,12 @@ bonds-ok-spec =
     Inv-loop
     μ-loop
     loop-holds
-    mul-x
-    array-copy-out-x
-    cast-bond-ok
-    bond-ok-requires
+    (λ c. search tests)
+    (λ c. search tests)
+    (λ c. search tests)
+    (λ c κs. search tests)
     returns
-    add-i
-    loop-less
+    (λ c. search tests)
+    (λ c. search tests)
     loop-again
     returns-2)

@@ -23,31 +23,13 @@ abbrev μ-loop : tie.MeasureT-loop
 loop-holds : tie.Need-loop-holds Inv-loop μ-loop
 loop-holds c = (search tests, search tests, count-none _)
 
-array-read-x : tie.Need-array-read-x Inv-loop μ-loop
-array-read-x c = search tests
-
-add-d : tie.Need-add-d Inv-loop μ-loop
-add-d c = search tests
-
-add-n : tie.Need-add-n Inv-loop μ-loop
-add-n c = search tests
-
-loop-less : tie.Need-loop-less Inv-loop μ-loop
-loop-less c = search tests
-
 loop-again : tie.Need-loop-again Inv-loop μ-loop
 unfolding parts
 loop-again c = (search tests, search tests, count-yes _ _ _ (search tests) (rw zero-add (eq-eqb _ _ (c .if1 .taken))))
 
-loop-less-2 : tie.Need-loop-less-2 Inv-loop μ-loop
-loop-less-2 c = search tests
-
 loop-again-2 : tie.Need-loop-again-2 Inv-loop μ-loop
 unfolding parts
 loop-again-2 c = (search tests, search tests, count-no _ _ _ (search tests) (rw zero-add (ne-eqb _ _ (c .if1 .left))))
-
-add-result : tie.Need-add-result Inv-loop μ-loop
-add-result c = search tests
 
 returns : tie.Need-returns Inv-loop μ-loop
 unfolding bound parts
@@ -60,12 +42,12 @@ bound-spec =
     Inv-loop
     μ-loop
     loop-holds
-    array-read-x
-    add-d
-    add-n
-    loop-less
+    (λ c. search tests)
+    (λ c. search tests)
+    (λ c. search tests)
+    (λ c. search tests)
     loop-again
-    loop-less-2
+    (λ c. search tests)
     loop-again-2
-    add-result
+    (λ c. search tests)
     returns)

@@ -23,27 +23,9 @@ abbrev μ-loop : tie.MeasureT-loop
 loop-holds : tie.Need-loop-holds Inv-loop μ-loop
 loop-holds c = (search tests, all-none _)
 
-mul-v : tie.Need-mul-v Inv-loop μ-loop
-mul-v c = search tests
-
-array-copy-out-v : tie.Need-array-copy-out-v Inv-loop μ-loop
-array-copy-out-v c = search tests
-
-cast-job-ok : tie.Need-cast-job-ok Inv-loop μ-loop
-cast-job-ok c = search tests
-
-job-ok-requires : tie.Need-job-ok-requires Inv-loop μ-loop
-job-ok-requires c κs = search tests
-
 returns : tie.Need-returns Inv-loop μ-loop
 unfolding jobsOk parts
 returns c = sym (all-fail _ _ _ (search tests) (sym (c .before .job-ok .ensures) ∙ not-true _ (c .if1 .taken)))
-
-add-i : tie.Need-add-i Inv-loop μ-loop
-add-i c = search tests
-
-loop-less : tie.Need-loop-less Inv-loop μ-loop
-loop-less c = search tests
 
 loop-again : tie.Need-loop-again Inv-loop μ-loop
 unfolding parts
@@ -60,12 +42,12 @@ jobs-ok-spec =
     Inv-loop
     μ-loop
     loop-holds
-    mul-v
-    array-copy-out-v
-    cast-job-ok
-    job-ok-requires
+    (λ c. search tests)
+    (λ c. search tests)
+    (λ c. search tests)
+    (λ c κs. search tests)
     returns
-    add-i
-    loop-less
+    (λ c. search tests)
+    (λ c. search tests)
     loop-again
     returns-2)

@@ -23,27 +23,9 @@ abbrev μ-loop : tie.MeasureT-loop
 loop-holds : tie.Need-loop-holds Inv-loop μ-loop
 loop-holds c = (search tests, all-none _)
 
-mul-m : tie.Need-mul-m Inv-loop μ-loop
-mul-m c = search tests
-
-array-copy-out-m : tie.Need-array-copy-out-m Inv-loop μ-loop
-array-copy-out-m c = search tests
-
-cast-slot-ok : tie.Need-cast-slot-ok Inv-loop μ-loop
-cast-slot-ok c = search tests
-
-slot-ok-requires : tie.Need-slot-ok-requires Inv-loop μ-loop
-slot-ok-requires c κs = search tests
-
 returns : tie.Need-returns Inv-loop μ-loop
 unfolding messagesOk parts
 returns c = sym (all-fail _ _ _ (search tests) (sym (c .before .slot-ok .ensures) ∙ not-true _ (c .if1 .taken)))
-
-add-i : tie.Need-add-i Inv-loop μ-loop
-add-i c = search tests
-
-loop-less : tie.Need-loop-less Inv-loop μ-loop
-loop-less c = search tests
 
 loop-again : tie.Need-loop-again Inv-loop μ-loop
 unfolding parts
@@ -60,12 +42,12 @@ messages-ok-spec =
     Inv-loop
     μ-loop
     loop-holds
-    mul-m
-    array-copy-out-m
-    cast-slot-ok
-    slot-ok-requires
+    (λ c. search tests)
+    (λ c. search tests)
+    (λ c. search tests)
+    (λ c κs. search tests)
     returns
-    add-i
-    loop-less
+    (λ c. search tests)
+    (λ c. search tests)
     loop-again
     returns-2)

@@ -20,33 +20,12 @@ Inv-loop entries b alive m pools base i₀ i = (i ≤ 64) × (all (λ j. cellOk 
 abbrev μ-loop : tie.MeasureT-loop
 μ-loop entries b alive m pools base i₀ i = 64 - i
 
-mul-base : tie.Need-mul-base Inv-loop μ-loop
-mul-base c = search tests
-
 loop-holds : tie.Need-loop-holds Inv-loop μ-loop
 loop-holds c = (search tests, all-none _)
-
-add-x : tie.Need-add-x Inv-loop μ-loop
-add-x c = search tests
-
-array-read-x : tie.Need-array-read-x Inv-loop μ-loop
-array-read-x c = search tests
-
-cast-cell-ok : tie.Need-cast-cell-ok Inv-loop μ-loop
-cast-cell-ok c = search tests
-
-cell-ok-requires : tie.Need-cell-ok-requires Inv-loop μ-loop
-cell-ok-requires c κs = search tests
 
 returns : tie.Need-returns Inv-loop μ-loop
 unfolding parts
 returns c = sym (all-fail _ _ _ (search tests) (sym (c .before .cell-ok .ensures) ∙ not-true _ (c .if2 .taken)))
-
-add-i : tie.Need-add-i Inv-loop μ-loop
-add-i c = search tests
-
-loop-less : tie.Need-loop-less Inv-loop μ-loop
-loop-less c = search tests
 
 loop-again : tie.Need-loop-again Inv-loop μ-loop
 unfolding parts
@@ -65,14 +44,14 @@ pool-row-spec =
     (tie.spec
     Inv-loop
     μ-loop
-    mul-base
+    (λ c. search tests)
     loop-holds
-    add-x
-    array-read-x
-    cast-cell-ok
-    cell-ok-requires
+    (λ c. search tests)
+    (λ c. search tests)
+    (λ c. search tests)
+    (λ c κs. search tests)
     returns
-    add-i
-    loop-less
+    (λ c. search tests)
+    (λ c. search tests)
     loop-again
     returns-2)

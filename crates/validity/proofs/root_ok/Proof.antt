@@ -7,12 +7,9 @@ use Rattle.table.specs.Views.{parts}
 use Rattle.validity.proofs.root_ok.Statement.{statement}
 use Rattle.validity.proofs.root_ok.Tie as tie
 
-element-copy-out-n : tie.Need-element-copy-out-n
-element-copy-out-n c = search needs
-
 returns : tie.Need-returns
 unfolding parts
 returns c = search flags
 
 pub root-ok-spec : {M : Type 1} → statement M
-root-ok-spec = tie.close (tie.spec element-copy-out-n returns)
+root-ok-spec = tie.close (tie.spec (λ c. search needs) returns)

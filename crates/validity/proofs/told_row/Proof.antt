@@ -19,42 +19,12 @@ Inv-loop machines m nodes told base i₀ i = (i ≤ 16) × (all (λ d. toldOk ma
 abbrev μ-loop : tie.MeasureT-loop
 μ-loop machines m nodes told base i₀ i = 16 - i
 
-mul-base : tie.Need-mul-base Inv-loop μ-loop
-mul-base c = search tests
-
 loop-holds : tie.Need-loop-holds Inv-loop μ-loop
 loop-holds c = (search tests, all-none _)
-
-mul-n : tie.Need-mul-n Inv-loop μ-loop
-mul-n c = search tests
-
-array-copy-out-n : tie.Need-array-copy-out-n Inv-loop μ-loop
-array-copy-out-n c = search tests
-
-add-x : tie.Need-add-x Inv-loop μ-loop
-add-x c = search tests
-
-array-read-x : tie.Need-array-read-x Inv-loop μ-loop
-array-read-x c = search tests
-
-cast-told-ok : tie.Need-cast-told-ok Inv-loop μ-loop
-cast-told-ok c = search tests
-
-cast-told-ok-2 : tie.Need-cast-told-ok-2 Inv-loop μ-loop
-cast-told-ok-2 c = search tests
-
-told-ok-requires : tie.Need-told-ok-requires Inv-loop μ-loop
-told-ok-requires c κs = search tests
 
 returns : tie.Need-returns Inv-loop μ-loop
 unfolding parts
 returns c = sym (all-fail _ _ _ (search tests) (sym (c .before .told-ok .ensures) ∙ not-true _ (c .if1 .taken)))
-
-add-i : tie.Need-add-i Inv-loop μ-loop
-add-i c = search tests
-
-loop-less : tie.Need-loop-less Inv-loop μ-loop
-loop-less c = search tests
 
 loop-again : tie.Need-loop-again Inv-loop μ-loop
 unfolding parts
@@ -70,17 +40,17 @@ told-row-spec =
     (tie.spec
     Inv-loop
     μ-loop
-    mul-base
+    (λ c. search tests)
     loop-holds
-    mul-n
-    array-copy-out-n
-    add-x
-    array-read-x
-    cast-told-ok
-    cast-told-ok-2
-    told-ok-requires
+    (λ c. search tests)
+    (λ c. search tests)
+    (λ c. search tests)
+    (λ c. search tests)
+    (λ c. search tests)
+    (λ c. search tests)
+    (λ c κs. search tests)
     returns
-    add-i
-    loop-less
+    (λ c. search tests)
+    (λ c. search tests)
     loop-again
     returns-2)

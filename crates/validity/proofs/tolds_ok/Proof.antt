@@ -24,18 +24,9 @@ abbrev μ-loop : tie.MeasureT-loop
 loop-holds : tie.Need-loop-holds Inv-loop μ-loop
 loop-holds c = (search tests, all-none _)
 
-told-row-requires : tie.Need-told-row-requires Inv-loop μ-loop
-told-row-requires c κs = search tests
-
 returns : tie.Need-returns Inv-loop μ-loop
 unfolding toldsOk toldRow parts
 returns c = sym (all-fail _ _ _ (search tests) (sym (c .before .told-row .ensures) ∙ not-true _ (c .if1 .taken)))
-
-add-i : tie.Need-add-i Inv-loop μ-loop
-add-i c = search tests
-
-loop-less : tie.Need-loop-less Inv-loop μ-loop
-loop-less c = search tests
 
 loop-again : tie.Need-loop-again Inv-loop μ-loop
 unfolding toldRow parts
@@ -52,9 +43,9 @@ tolds-ok-spec =
     Inv-loop
     μ-loop
     loop-holds
-    told-row-requires
+    (λ c κs. search tests)
     returns
-    add-i
-    loop-less
+    (λ c. search tests)
+    (λ c. search tests)
     loop-again
     returns-2)

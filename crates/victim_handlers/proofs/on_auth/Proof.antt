@@ -8,21 +8,6 @@ use Rattle.victim_handlers.specs.VictimHandlers.{onAuth}
 use Rattle.victim_handlers.proofs.on_auth.Statement.{statement}
 use Rattle.victim_handlers.proofs.on_auth.Tie as tie
 
-cast-b : tie.Need-cast-b
-cast-b c = search needs
-
-mul-n : tie.Need-mul-n
-mul-n c = search needs
-
-array-copy-out-n : tie.Need-array-copy-out-n
-array-copy-out-n c = search needs
-
-reserves-requires : tie.Need-reserves-requires
-reserves-requires c κs = search needs
-
-released-requires : tie.Need-released-requires
-released-requires c κs = search needs
-
 send-requires : tie.Need-send-requires
 unfolding parts
 send-requires c κs = ((λ l. rw (c .released .ensures) (search tests)), search tests)
@@ -39,11 +24,11 @@ pub on-auth-spec : {M : Type 1} → statement M
 on-auth-spec =
     tie.close
     (tie.spec
-    cast-b
-    mul-n
-    array-copy-out-n
-    reserves-requires
-    released-requires
+    (λ c. search needs)
+    (λ c. search needs)
+    (λ c. search needs)
+    (λ c κs. search needs)
+    (λ c κs. search needs)
     send-requires
     returns
     returns-2)

@@ -10,18 +10,6 @@ use Rattle.victim_handlers.specs.VictimHandlers.{onDenied}
 use Rattle.victim_handlers.proofs.on_denied.Statement.{statement}
 use Rattle.victim_handlers.proofs.on_denied.Tie as tie
 
-cast-b : tie.Need-cast-b
-cast-b c = search needs
-
-mul-n : tie.Need-mul-n
-mul-n c = search needs
-
-array-copy-out-n : tie.Need-array-copy-out-n
-array-copy-out-n c = search needs
-
-reserves-requires : tie.Need-reserves-requires
-reserves-requires c κs = search needs
-
 returned-requires : tie.Need-returned-requires
 unfolding parts
 returned-requires c κs =
@@ -44,10 +32,10 @@ pub on-denied-spec : {M : Type 1} → statement M
 on-denied-spec =
     tie.close
     (tie.spec
-    cast-b
-    mul-n
-    array-copy-out-n
-    reserves-requires
+    (λ c. search needs)
+    (λ c. search needs)
+    (λ c. search needs)
+    (λ c κs. search needs)
     returned-requires
     no-work-requires
     returns

@@ -7,21 +7,6 @@ use Rattle.victim_handlers.specs.VictimHandlers.{onObsolete}
 use Rattle.victim_handlers.proofs.on_obsolete.Statement.{statement}
 use Rattle.victim_handlers.proofs.on_obsolete.Tie as tie
 
-cast-b : tie.Need-cast-b
-cast-b c = search needs
-
-mul-n : tie.Need-mul-n
-mul-n c = search needs
-
-array-copy-out-n : tie.Need-array-copy-out-n
-array-copy-out-n c = search needs
-
-reserves-requires : tie.Need-reserves-requires
-reserves-requires c κs = search needs
-
-released-requires : tie.Need-released-requires
-released-requires c κs = search needs
-
 no-work-requires : tie.Need-no-work-requires
 unfolding parts
 no-work-requires c κs = (record { free = rw (c .released .ensures) (search tests) }, search tests)
@@ -38,11 +23,11 @@ pub on-obsolete-spec : {M : Type 1} → statement M
 on-obsolete-spec =
     tie.close
     (tie.spec
-    cast-b
-    mul-n
-    array-copy-out-n
-    reserves-requires
-    released-requires
+    (λ c. search needs)
+    (λ c. search needs)
+    (λ c. search needs)
+    (λ c κs. search needs)
+    (λ c κs. search needs)
     no-work-requires
     returns
     returns-2)

@@ -7,12 +7,6 @@ use Rattle.work.specs.Work.{doneOf}
 use Rattle.work.proofs.done_number.Statement.{statement}
 use Rattle.work.proofs.done_number.Tie as tie
 
-mul-n : tie.Need-mul-n
-mul-n c = search needs
-
-array-copy-out-n : tie.Need-array-copy-out-n
-array-copy-out-n c = search needs
-
 returns : tie.Need-returns
 unfolding doneOf parts
 returns c = search flags
@@ -30,4 +24,4 @@ unfolding doneOf parts
 returns-4 c = search flags
 
 pub done-number-spec : {M : Type 1} → statement M
-done-number-spec = tie.close (tie.spec mul-n array-copy-out-n returns returns-2 returns-3 returns-4)
+done-number-spec = tie.close (tie.spec (λ c. search needs) (λ c. search needs) returns returns-2 returns-3 returns-4)

@@ -8,12 +8,6 @@ use Rattle.work.specs.Work.{finished}
 use Rattle.work.proofs.finished.Statement.{statement}
 use Rattle.work.proofs.finished.Tie as tie
 
-mul-n : tie.Need-mul-n
-mul-n c = search needs
-
-element-copy-out-n : tie.Need-element-copy-out-n
-element-copy-out-n c = search needs
-
 cast-bond : tie.Need-cast-bond
 unfolding parts
 cast-bond c = search tests
@@ -26,15 +20,6 @@ element-copy-out-bond : tie.Need-element-copy-out-bond
 unfolding parts
 element-copy-out-bond c = search tests
 
-price-bits-requires : tie.Need-price-bits-requires
-price-bits-requires c κs = search needs
-
-mul-n-2 : tie.Need-mul-n-2
-mul-n-2 c = search needs
-
-element-set-from-n : tie.Need-element-set-from-n
-element-set-from-n c = search needs
-
 send-requires : tie.Need-send-requires
 send-requires c κs = ((λ l. search needs), search needs)
 
@@ -46,13 +31,13 @@ pub finished-spec : {M : Type 1} → statement M
 finished-spec =
     tie.close
     (tie.spec
-    mul-n
-    element-copy-out-n
+    (λ c. search needs)
+    (λ c. search needs)
     cast-bond
     mul-bond
     element-copy-out-bond
-    price-bits-requires
-    mul-n-2
-    element-set-from-n
+    (λ c κs. search needs)
+    (λ c. search needs)
+    (λ c. search needs)
     send-requires
     returns)
