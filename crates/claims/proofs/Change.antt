@@ -11,7 +11,7 @@ use Rattle.table.specs.declared.Message.{Message}
 use Rattle.table.specs.declared.Table.{Table}
 use Rattle.table.specs.Views.{noJob, jobAt, withJob}
 use Rattle.table.specs.Messages.{pull, send}
-use Rattle.table.specs.Parts.{opened, priced}
+use Rattle.table.specs.Parts.{opened, priced, NOT-ADMITTED, OPEN, PRICED}
 use Rattle.table.proofs.Views.{Sized, job-same, job-other, job-messages}
 use Rattle.invariant.proofs.Flight.{view-send}
 
@@ -20,17 +20,17 @@ pub record Same (v w : Job) : Type 0 where
   pub state : w .state ≡ v .state
   pub price : w .price ≡ v .price
   pub replica : w .replica ≡ v .replica
-  pub stays : v .state ≡ 2 → w ≡ v
+  pub stays : v .state ≡ PRICED → w ≡ v
 
 pub same-job : (v w : Job) → w ≡ v → Same v w
 same-job v w e = record { state = ap (λ (u : Job). u .state) e; price = ap (λ (u : Job). u .price) e; replica = ap (λ (u : Job). u .replica) e; stays = λ d. e }
 
 -- job v becomes w: a, d and f say whether the event admits it, delivers a RESULT for it, or finds it; p is that RESULT's price
 pub data Change (a d f : Bool) (p : ℕ) (v w : Job) : Type 0 where
-  admission : a ≡ true → d ≡ false → f ≡ false → v .state ≡ 0 → w ≡ opened 1 → Change a d f p v w
-  pricing : a ≡ false → d ≡ true → f ≡ false → v .state ≡ 1 → w ≡ priced v p → Change a d f p v w
-  late : a ≡ false → d ≡ true → f ≡ false → v .state ≡ 2 → w ≡ v → Change a d f p v w
-  finding : a ≡ false → d ≡ false → f ≡ true → v .state ≡ 1 → w ≡ opened (v .replica + 1) → Change a d f p v w
+  admission : a ≡ true → d ≡ false → f ≡ false → v .state ≡ NOT-ADMITTED → w ≡ opened 1 → Change a d f p v w
+  pricing : a ≡ false → d ≡ true → f ≡ false → v .state ≡ OPEN → w ≡ priced v p → Change a d f p v w
+  late : a ≡ false → d ≡ true → f ≡ false → v .state ≡ PRICED → w ≡ v → Change a d f p v w
+  finding : a ≡ false → d ≡ false → f ≡ true → v .state ≡ OPEN → w ≡ opened (v .replica + 1) → Change a d f p v w
   other : a ≡ false → d ≡ false → f ≡ false → Same v w → Change a d f p v w
 
 -- ---- jobs after a part of an event

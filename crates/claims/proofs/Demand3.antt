@@ -6,6 +6,7 @@ use mathlib.Core.List.{List, _++_}
 use native.Mathlib.Omega.{arith}
 use Rattle.book.specs.Book.{bookVerdict}
 use Rattle.table.specs.declared.Table.{Table}
+use Rattle.table.specs.Parts.{PRICED}
 use Rattle.table.specs.Views.{jobAt}
 use Rattle.opening.specs.Opening.{openOf}
 use Rattle.preservation.proofs.Ok.{Valid}
@@ -24,7 +25,7 @@ valid : (t : Table) → Whole t → Valid t
 valid t w = record { sized = w .sized; ok = w .ok }
 
 -- a job that is priced after some events is untouched by later ones
-stays : (t : Table) (es later : List (List ℕ)) (j : ℕ) → Whole t → jobAt (runOf t es) j .state ≡ 2 → jobAt (runOf t (es ++ later)) j ≡ jobAt (runOf t es) j
+stays : (t : Table) (es later : List (List ℕ)) (j : ℕ) → Whole t → jobAt (runOf t es) j .state ≡ PRICED → jobAt (runOf t (es ++ later)) j ≡ jobAt (runOf t es) j
 stays t es later j w e =
     let x = whole-run t es w in
     rw (run-append t es later) (settled j (job-64 (runOf t es) j x (λ z. omega arith)) (runOf t es) later x e .job)

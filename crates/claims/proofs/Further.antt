@@ -11,6 +11,7 @@ use lib.Dec.{ltb}
 use lib.ListN.{length, replicate}
 use Rattle.lists.proofs.Cases.{byBool, byEq, and-both}
 use Rattle.table.specs.declared.Job.{Job}
+use Rattle.table.specs.Parts.{NOT-ADMITTED, OPEN, PRICED}
 use Rattle.table.specs.declared.Table.{Table}
 use Rattle.table.specs.Views.{jobAt}
 use Rattle.invariant.proofs.State.{Whole}
@@ -41,22 +42,22 @@ admitted-after [] = λ (e : _≡_ {A = ℕ} 1 0). omega arith
 admitted-after (p ∷ ps) = λ (e : _≡_ {A = ℕ} 2 0). omega arith
 
 -- only the jobs of the array are admitted
-pub job-64 : (t : Table) (j : ℕ) → Whole t → jobAt t j .state ≢ 0 → j < 64
+pub job-64 : (t : Table) (j : ℕ) → Whole t → jobAt t j .state ≢ NOT-ADMITTED → j < 64
 job-64 t j w n =
     byBool (ltb j 64)
     (λ e. ltb-true j 64 e)
     (λ e. absurd (n (ap (λ (v : Job). v .state) (job-past t (w .sized) j (ltb-false j 64 e)))))
 
-stays-admitted : (t : Table) (es : List (List ℕ)) (j : ℕ) → Whole t → jobAt t j .state ≢ 0 → jobAt (runOf t es) j .state ≢ 0
+stays-admitted : (t : Table) (es : List (List ℕ)) (j : ℕ) → Whole t → jobAt t j .state ≢ NOT-ADMITTED → jobAt (runOf t es) j .state ≢ NOT-ADMITTED
 stays-admitted t es j w n =
     let l = job-64 t j w n in
-    byEq (jobAt t j .state) 1
+    byEq (jobAt t j .state) OPEN
     (λ e.
     let r = open-run j l t es w e in
     let one : 1 + countOf (admits j) t es ≡ 1 = omega (arith, r .once) in
     rw (r .state, one) (admitted-after (resultsOf j t es)))
     (λ e.
-    let two : jobAt t j .state ≡ 2 = omega (arith, n, e, w .facts .job j l .state) in
+    let two : jobAt t j .state ≡ PRICED = omega (arith, n, e, w .facts .job j l .state) in
     rw (settled j l t es w two .job) n)
 
 pub further : (t : Table) → Whole t → Further t

@@ -13,7 +13,7 @@ use Rattle.table.specs.declared.Message.{Message}
 use Rattle.table.specs.declared.Table.{Table}
 use Rattle.table.specs.Views.{jobAt, toldAt, messageAt, withJob}
 use Rattle.table.specs.Messages.{pull}
-use Rattle.table.specs.Parts.{moved, placed, priced, FISH, REQ, AUTH, DENIED, OBSOLETE, SCHEDULE, ACK, NOWORK, RESULT}
+use Rattle.table.specs.Parts.{moved, placed, priced, FISH, REQ, AUTH, DENIED, OBSOLETE, SCHEDULE, ACK, NOWORK, RESULT, NOT-ADMITTED, OPEN, PRICED}
 use Rattle.table.proofs.Views.{job-same, job-other, job-node, job-pool}
 use Rattle.victim_handlers.specs.VictimHandlers.{onFish, onAuth, onDenied, onObsolete}
 use Rattle.thief_handlers.specs.ThiefHandlers.{onSchedule, onNoWork}
@@ -45,11 +45,11 @@ job-reply u x k j = job-send u _ j
 -- ---- those that write one
 
 -- a job that is not priced, at another place
-same-moved : (v : Job) (a b : ℕ) → v .state ≢ 2 → Same v (moved v a b)
+same-moved : (v : Job) (a b : ℕ) → v .state ≢ PRICED → Same v (moved v a b)
 unfolding moved
 same-moved v a b n = record { state = refl; price = refl; replica = refl; stays = λ e. absurd (n e) }
 
-same-placed : (v : Job) (a : ℕ) → v .state ≢ 2 → Same v (placed v a)
+same-placed : (v : Job) (a : ℕ) → v .state ≢ PRICED → Same v (placed v a)
 unfolding placed
 same-placed v a n = record { state = refl; price = refl; replica = refl; stays = λ e. absurd (n e) }
 
@@ -60,21 +60,21 @@ module _ (s : Table) (x : Message) (h : Hand s x) (cap : x .replica ≤ jobAt s 
   same-req : Same (jobAt s j) (jobAt (onReq s x) j)
   unfolding onReq
   same-req =
-      byBool (eqb (v .state) 2 || not (eqb (v .replica) (x .replica)))
+      byBool (eqb (v .state) PRICED || not (eqb (v .replica) (x .replica)))
       (λ a. rw (a, onReq) (same-job _ _ (job-reply s x OBSOLETE j)))
       (λ a. byBool (not (eqb (toldAt s 0 (x .thief)) 0) || not (eqb (v .moving) 0))
       (λ b. rw (a, b, onReq) (same-job _ _ (job-reply s x DENIED j)))
       (λ b.
       let u = withJob s (x .job) (moved v (x .from) (x .thief)) in
       rw (a, b, onReq) (rw (job-reply u x AUTH j)
-      (same-with s (h .sized) (x .job) (moved v (x .from) (x .thief)) (h .message .job) (same-moved v (x .from) (x .thief) (eqb-false (v .state) 2 (or-left-false (eqb (v .state) 2) (not (eqb (v .replica) (x .replica))) a))) j))))
+      (same-with s (h .sized) (x .job) (moved v (x .from) (x .thief)) (h .message .job) (same-moved v (x .from) (x .thief) (eqb-false (v .state) PRICED (or-left-false (eqb (v .state) PRICED) (not (eqb (v .replica) (x .replica))) a))) j))))
 
   same-ack : Same (jobAt s j) (jobAt (onAck s x) j)
   unfolding onAck
   same-ack =
-      byBool (eqb (v .state) 1 && eqb (v .replica) (x .replica))
+      byBool (eqb (v .state) OPEN && eqb (v .replica) (x .replica))
       (λ a.
-      let one = eqb-true (v .state) 1 (and-left (eqb (v .state) 1) (eqb (v .replica) (x .replica)) a) in
+      let one = eqb-true (v .state) OPEN (and-left (eqb (v .state) OPEN) (eqb (v .replica) (x .replica)) a) in
       rw (a, onAck) (same-with s (h .sized) (x .job) (placed v (x .from)) (h .message .job) (same-placed v (x .from) (λ e. omega arith)) j))
       (λ a. rw (a, onAck) (same-job (jobAt s j) (jobAt s j) refl))
 
@@ -92,7 +92,7 @@ module _ (s : Table) (x : Message) (h : Hand s x) (cap : x .replica ≤ jobAt s 
   kept u k e n c = plain u k e n (same-job (jobAt s j) (jobAt u j) c)
 
   -- a RESULT is of a job that is admitted: it carries a replica number from 1 to the job's
-  admitted : x .kind ≡ RESULT → v .state ≢ 0
+  admitted : x .kind ≡ RESULT → v .state ≢ NOT-ADMITTED
   admitted k e =
       let none : v .replica ≡ 0 = ap (λ (u : Job). u .replica) (h .facts .job (x .job) (h .message .job) .none e) in
       let some : 1 ≤ x .replica = h .message .some (rw k refl) in
@@ -105,15 +105,15 @@ module _ (s : Table) (x : Message) (h : Hand s x) (cap : x .replica ≤ jobAt s 
       byEq (x .job) j
       (λ e.
       let d : eqb (x .kind) RESULT && eqb (x .job) j ≡ true = rw (kb, eq-eqb (x .job) j e) refl in
-      byBool (eqb (v .state) 1)
-      (λ a. rw (a, onResult) (pricing refl d refl (ap (λ (i : ℕ). jobAt s i .state) (sym e) ∙ eqb-true (v .state) 1 a)
+      byBool (eqb (v .state) OPEN)
+      (λ a. rw (a, onResult) (pricing refl d refl (ap (λ (i : ℕ). jobAt s i .state) (sym e) ∙ eqb-true (v .state) OPEN a)
       (ap (λ (i : ℕ). jobAt (withJob s (x .job) (priced v (x .price))) i) (sym e) ∙ job-same s (h .sized) (x .job) (priced v (x .price)) (h .message .job)
       ∙ ap (λ (i : ℕ). priced (jobAt s i) (x .price)) e)))
       (λ a.
-      let two : v .state ≡ 2 = omega (arith, admitted k, eqb-false (v .state) 1 a, h .facts .job (x .job) (h .message .job) .state) in
+      let two : v .state ≡ PRICED = omega (arith, admitted k, eqb-false (v .state) OPEN a, h .facts .job (x .job) (h .message .job) .state) in
       rw (a, onResult) (late refl d refl (ap (λ (i : ℕ). jobAt s i .state) (sym e) ∙ two) refl)))
       (λ e. other refl (rw (kb, ne-eqb (x .job) j e) refl) refl
-      (same-job _ _ (cond-elim (λ u. jobAt u j ≡ jobAt s j) (eqb (v .state) 1) _ s (job-other s (x .job) j _ (λ z. e (sym z))) refl)))
+      (same-job _ _ (cond-elim (λ u. jobAt u j ≡ jobAt s j) (eqb (v .state) OPEN) _ s (job-other s (x .job) j _ (λ z. e (sym z))) refl)))
 
   after-handle : After (handle s x)
   after-handle =

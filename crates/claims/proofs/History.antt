@@ -10,7 +10,7 @@ use lib.ListN.{getD}
 use Rattle.table.specs.declared.Job.{Job}
 use Rattle.table.specs.declared.Table.{Table}
 use Rattle.table.specs.Views.{jobAt}
-use Rattle.table.specs.Parts.{opened, priced}
+use Rattle.table.specs.Parts.{opened, priced, NOT-ADMITTED, OPEN, PRICED}
 use Rattle.invariant.proofs.State.{Whole}
 use Rattle.dispatcher.specs.Step.{stepOf, runOf}
 use Rattle.claims.specs.History.{countOf, admits, finds, delivers, takenOff, resultsOf, stateAfter}
@@ -23,7 +23,7 @@ use Rattle.claims.proofs.Steps.{change-step}
 
 -- ---- parts of jobs
 
-opened-state : (r : ℕ) → opened r .state ≡ 1
+opened-state : (r : ℕ) → opened r .state ≡ OPEN
 unfolding opened
 opened-state r = refl
 
@@ -31,7 +31,7 @@ opened-replica : (r : ℕ) → opened r .replica ≡ r
 unfolding opened
 opened-replica r = refl
 
-priced-state : (v : Job) (p : ℕ) → priced v p .state ≡ 2
+priced-state : (v : Job) (p : ℕ) → priced v p .state ≡ PRICED
 unfolding priced
 priced-state v p = refl
 
@@ -57,7 +57,7 @@ pub record Settled (j : ℕ) (t : Table) (es : List (List ℕ)) : Type 0 where
   pub found : countOf (finds j) t es ≡ 0
 
 module _ (j : ℕ) (l : j < 64) where
-  settled-one : (a d f : Bool) (p : ℕ) (v w : Job) → Change a d f p v w → v .state ≡ 2 → (w ≡ v) × (a ≡ false) × (f ≡ false)
+  settled-one : (a d f : Bool) (p : ℕ) (v w : Job) → Change a d f p v w → v .state ≡ PRICED → (w ≡ v) × (a ≡ false) × (f ≡ false)
   settled-one a d f p v w (admission x y z s e) h = absurd (omega arith)
   settled-one a d f p v w (pricing x y z s e) h = absurd (omega arith)
   settled-one a d f p v w (late x y z s e) h = (e, x, z)
@@ -71,7 +71,7 @@ module _ (j : ℕ) (l : j < 64) where
     found = count-more (finds j) t e es ∙ rw (c .2, r .found) refl;
   }
 
-  pub settled : (t : Table) (es : List (List ℕ)) → Whole t → jobAt t j .state ≡ 2 → Settled j t es
+  pub settled : (t : Table) (es : List (List ℕ)) → Whole t → jobAt t j .state ≡ PRICED → Settled j t es
   unfolding runOf
   settled t [] w h = record { job = refl; admitted = count-none (admits j) t; found = count-none (finds j) t }
   settled t (e ∷ es) w h =
@@ -86,7 +86,7 @@ pub record Shows (j : ℕ) (t : Table) (es : List (List ℕ)) (before base : ℕ
   pub once : before + countOf (admits j) t es ≤ 1
   pub admitted : resultsOf j t es ≢ [] → before + countOf (admits j) t es ≡ 1
   pub price : jobAt (runOf t es) j .price ≡ getD (resultsOf j t es) 0 0
-  pub replica : jobAt (runOf t es) j .state ≢ 0 → jobAt (runOf t es) j .replica ≡ base + countOf (finds j) t es
+  pub replica : jobAt (runOf t es) j .state ≢ NOT-ADMITTED → jobAt (runOf t es) j .replica ≡ base + countOf (finds j) t es
 
 -- an event that delivers no RESULT for the job
 shows-more : (j : ℕ) (t : Table) (e : List ℕ) (es : List (List ℕ)) (n m b c : ℕ) → delivers j t e ≡ false
@@ -122,7 +122,7 @@ shows-priced j t e es a d f w r =
 
 module _ (j : ℕ) (l : j < 64) where
   -- no event
-  open-none : (t : Table) → Whole t → jobAt t j .state ≡ 1 → Shows j t [] 1 (jobAt t j .replica)
+  open-none : (t : Table) → Whole t → jobAt t j .state ≡ OPEN → Shows j t [] 1 (jobAt t j .replica)
   unfolding runOf countOf resultsOf stateAfter
   open-none t w h = record {
     state = h;
@@ -132,7 +132,7 @@ module _ (j : ℕ) (l : j < 64) where
     replica = λ z. omega arith;
   }
 
-  new-none : (t : Table) → Whole t → jobAt t j .state ≡ 0 → Shows j t [] 0 1
+  new-none : (t : Table) → Whole t → jobAt t j .state ≡ NOT-ADMITTED → Shows j t [] 0 1
   unfolding runOf countOf resultsOf stateAfter
   new-none t w h = record {
     state = h;
@@ -143,9 +143,9 @@ module _ (j : ℕ) (l : j < 64) where
   }
 
   open-more : (t : Table) (e : List ℕ) (es : List (List ℕ)) → Change (admits j t e) (delivers j t e) (finds j t e) (takenOff t e .price) (jobAt t j) (jobAt (stepOf t e .table) j)
-      → jobAt t j .state ≡ 1
-      → (jobAt (stepOf t e .table) j .state ≡ 1 → Shows j (stepOf t e .table) es 1 (jobAt (stepOf t e .table) j .replica))
-      → (jobAt (stepOf t e .table) j .state ≡ 2 → Settled j (stepOf t e .table) es)
+      → jobAt t j .state ≡ OPEN
+      → (jobAt (stepOf t e .table) j .state ≡ OPEN → Shows j (stepOf t e .table) es 1 (jobAt (stepOf t e .table) j .replica))
+      → (jobAt (stepOf t e .table) j .state ≡ PRICED → Settled j (stepOf t e .table) es)
       → Shows j t (e ∷ es) 1 (jobAt t j .replica)
   open-more t e es (admission x y z s c) h r q = absurd (omega arith)
   open-more t e es (pricing x y z s c) h r q =
@@ -158,15 +158,15 @@ module _ (j : ℕ) (l : j < 64) where
   open-more t e es (other x y z s) h r q =
       shows-more j t e es 1 1 (jobAt t j .replica) (jobAt t j .replica) y (rw x refl) (rw z (omega arith)) (rw (s .replica) at (r (s .state ∙ h)))
 
-  pub open-run : (t : Table) (es : List (List ℕ)) → Whole t → jobAt t j .state ≡ 1 → Shows j t es 1 (jobAt t j .replica)
+  pub open-run : (t : Table) (es : List (List ℕ)) → Whole t → jobAt t j .state ≡ OPEN → Shows j t es 1 (jobAt t j .replica)
   open-run t [] w h = open-none t w h
   open-run t (e ∷ es) w h =
       open-more t e es (change-step t w e j l) h (open-run (stepOf t e .table) es (whole-step t e w)) (settled j l (stepOf t e .table) es (whole-step t e w))
 
   new-more : (t : Table) (e : List ℕ) (es : List (List ℕ)) → Change (admits j t e) (delivers j t e) (finds j t e) (takenOff t e .price) (jobAt t j) (jobAt (stepOf t e .table) j)
-      → jobAt t j .state ≡ 0
-      → (jobAt (stepOf t e .table) j .state ≡ 0 → Shows j (stepOf t e .table) es 0 1)
-      → (jobAt (stepOf t e .table) j .state ≡ 1 → Shows j (stepOf t e .table) es 1 (jobAt (stepOf t e .table) j .replica))
+      → jobAt t j .state ≡ NOT-ADMITTED
+      → (jobAt (stepOf t e .table) j .state ≡ NOT-ADMITTED → Shows j (stepOf t e .table) es 0 1)
+      → (jobAt (stepOf t e .table) j .state ≡ OPEN → Shows j (stepOf t e .table) es 1 (jobAt (stepOf t e .table) j .replica))
       → Shows j t (e ∷ es) 0 1
   new-more t e es (admission x y z s c) h r q =
       let o : jobAt (stepOf t e .table) j .replica ≡ 1 = ap (λ (v : Job). v .replica) c ∙ opened-replica 1 in
@@ -176,7 +176,7 @@ module _ (j : ℕ) (l : j < 64) where
   new-more t e es (finding x y z s c) h r q = absurd (omega arith)
   new-more t e es (other x y z s) h r q = shows-more j t e es 0 0 1 1 y (rw x refl) (rw z refl) (r (s .state ∙ h))
 
-  pub new-run : (t : Table) (es : List (List ℕ)) → Whole t → jobAt t j .state ≡ 0 → Shows j t es 0 1
+  pub new-run : (t : Table) (es : List (List ℕ)) → Whole t → jobAt t j .state ≡ NOT-ADMITTED → Shows j t es 0 1
   new-run t [] w h = new-none t w h
   new-run t (e ∷ es) w h =
       new-more t e es (change-step t w e j l) h (new-run (stepOf t e .table) es (whole-step t e w)) (open-run (stepOf t e .table) es (whole-step t e w))

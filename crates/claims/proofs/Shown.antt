@@ -10,6 +10,7 @@ use Rattle.lists.proofs.Scans.{tabulate-at}
 use Rattle.pricer.specs.Price.{priceBits}
 use Rattle.book.specs.Parts.{entryCount, bondOf}
 use Rattle.table.specs.declared.Job.{Job}
+use Rattle.table.specs.Parts.{NOT-ADMITTED, PRICED}
 use Rattle.table.specs.declared.Table.{Table}
 use Rattle.table.specs.Views.{bondAt, jobAt}
 use Rattle.invariant.proofs.State.{Whole}
@@ -32,7 +33,7 @@ serial-at book j l = tabulate-at (λ i. priceBits (bondOf book i)) 0 0 (entryCou
 -- what is asked of the table that the first event is given
 pub record Start (book : List ℕ) (t : Table) : Type 0 where
   pub whole : Whole t
-  pub new : (j : ℕ) → j < 64 → jobAt t j .state ≡ 0
+  pub new : (j : ℕ) → j < 64 → jobAt t j .state ≡ NOT-ADMITTED
   pub bond : (j : ℕ) → j < 64 → bondAt t j ≡ bondOf book j
   pub none : deaths t ≡ 0
   pub entries : entryCount book ≤ 64
@@ -47,7 +48,7 @@ module _ (book : List ℕ) (t : Table) (es : List (List ℕ)) (s : Start book t)
   l : j < 64
   l = omega (arith, entry, s .entries)
 
-  right : jobAt u j .state ≡ 2 → jobAt u j .price ≡ getD (serialOf book) j 0
+  right : jobAt u j .state ≡ PRICED → jobAt u j .price ≡ getD (serialOf book) j 0
   right e = w .prices .shown j l e ∙ ap priceBits (bond-run t es j ∙ s .bond j l) ∙ sym (serial-at book j entry)
 
   few : jobAt u j .replica ≤ 1 + countOf kills t es

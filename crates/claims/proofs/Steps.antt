@@ -14,7 +14,7 @@ use Rattle.table.specs.declared.Table.{Table}
 use Rattle.table.specs.declared.Answer.{Answer}
 use Rattle.table.specs.Views.{jobAt, withJob}
 use Rattle.table.specs.Messages.{oldest}
-use Rattle.table.specs.Parts.{opened, accept, RESULT}
+use Rattle.table.specs.Parts.{opened, accept, RESULT, OPEN}
 use Rattle.table.proofs.Views.{views, job-same, job-other, job-node}
 use Rattle.events.specs.Events.{admitted, delivered, died}
 use Rattle.steal.specs.Steal.{stolen}
@@ -58,7 +58,7 @@ change-reissued : (u : Job) (b p : ℕ) → Change false false (lost u b) p u (r
 unfolding reissuedJob
 change-reissued u b p =
     byBool (lost u b)
-    (λ e. rw (e, reissuedJob) (finding refl refl refl (eqb-true (u .state) 1 (and-left (eqb (u .state) 1) (eqb (u .holder) b || eqb (u .moving) 1 && eqb (u .thief) b) e)) refl))
+    (λ e. rw (e, reissuedJob) (finding refl refl refl (eqb-true (u .state) OPEN (and-left (eqb (u .state) OPEN) (eqb (u .holder) b || eqb (u .moving) 1 && eqb (u .thief) b) e)) refl))
     (λ e. rw (e, reissuedJob) (other refl refl refl (same-job u u refl)))
 
 module _ (t : Table) (w : Whole t) (j : ℕ) (l : j < 64) where

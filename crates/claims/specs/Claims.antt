@@ -16,8 +16,8 @@ use mathlib.Core.List.{List, [], _∷_, _++_}
 use lib.ListN.{length, getD, replicate}
 use Rattle.book.specs.Parts.{entryCount}
 use Rattle.table.specs.declared.Job.{Job}
+use Rattle.table.specs.Parts.{NOT-ADMITTED, PRICED}
 use Rattle.table.specs.declared.Table.{Table}
-use Rattle.table.specs.declared.Answer.{Answer}
 use Rattle.table.specs.Views.{jobAt}
 use Rattle.opening.specs.Opening.{openOf}
 use Rattle.dispatcher.specs.Step.{stepOf, runOf, answersOf}
@@ -44,11 +44,11 @@ pub record Shown (book : List ℕ) (fresh : Table) (events : List (List ℕ)) (j
   -- "its price is that of the first one delivered"; a job not priced has price bits 0
   pub price : v .price ≡ getD (resultsOf j fresh events) 0 0
   -- "every priced bond has the price that one machine gives it"
-  pub serial : v .state ≡ 2 → v .price ≡ getD (serialOf book) j 0
+  pub serial : v .state ≡ PRICED → v .price ≡ getD (serialOf book) j 0
   -- the replica number is "1 plus the root notices that found the job"
-  pub replica : v .state ≢ 0 → v .replica ≡ 1 + countOf (finds j) fresh events
+  pub replica : v .state ≢ NOT-ADMITTED → v .replica ≡ 1 + countOf (finds j) fresh events
   -- "a job not admitted has replica 0"
-  pub unnumbered : v .state ≡ 0 → v .replica ≡ 0
+  pub unnumbered : v .state ≡ NOT-ADMITTED → v .replica ≡ 0
   -- "no replica number above 1 + accepted deaths"
   pub bounded : v .replica ≤ 1 + countOf kills fresh events
 
@@ -62,7 +62,7 @@ pub record Further (t : Table) : Type 0 where
   -- each has three bytes, and is no admission, steal or death
   pub only : allFurther events ≡ true
   -- every bond that is admitted in t is priced after them
-  pub priced : (j : ℕ) → jobAt t j .state ≢ 0 → jobAt (runOf t events) j .state ≡ 2
+  pub priced : (j : ℕ) → jobAt t j .state ≢ NOT-ADMITTED → jobAt (runOf t events) j .state ≡ PRICED
 
 -- Demand 3 of a book, a list of events, the numbers that they were answered and the table after them, by its sentences
 pub record Demand3 (book : List ℕ) (events : List (List ℕ)) (numbers : List ℕ) (table : Table) : Type 0 where
@@ -75,12 +75,12 @@ pub record Demand3 (book : List ℕ) (events : List (List ℕ)) (numbers : List 
   -- every bond of the book in it: its price, its replica number, and what they come from
   pub shown : (j : ℕ) → j < entryCount book → Shown book (openOf book .table) events j (jobAt table j)
   -- "a priced bond stays priced at that price", whatever events follow
-  pub stays : (later : List (List ℕ)) (j : ℕ) → jobAt table j .state ≡ 2 → jobAt (runOf (openOf book .table) (events ++ later)) j ≡ jobAt table j
+  pub stays : (later : List (List ℕ)) (j : ℕ) → jobAt table j .state ≡ PRICED → jobAt (runOf (openOf book .table) (events ++ later)) j ≡ jobAt table j
   -- the further events, from the table the run ended with
   pub further : Further table
 
 -- "So a bond priced in two such runs over one book has one price in both."
 pub record RunsAgree (book : List ℕ) : Type 0 where
   pub price : (events others : List (List ℕ)) (j : ℕ) → j < entryCount book
-      → jobAt (runOf (openOf book .table) events) j .state ≡ 2 → jobAt (runOf (openOf book .table) others) j .state ≡ 2
+      → jobAt (runOf (openOf book .table) events) j .state ≡ PRICED → jobAt (runOf (openOf book .table) others) j .state ≡ PRICED
       → jobAt (runOf (openOf book .table) events) j .price ≡ jobAt (runOf (openOf book .table) others) j .price

@@ -8,7 +8,7 @@ use borrow.Author.Tests.{ltb-true}
 use lib.Dec.{ltb}
 use Rattle.lists.proofs.Cases.{and-left, and-right}
 use Rattle.table.specs.declared.Table.{Table}
-use Rattle.messages.specs.Needs.{Ready}
+use Rattle.table.specs.Needs.{Ready}
 use Rattle.dispatcher.specs.Codes.{ADMIT, START}
 use Rattle.dispatcher.specs.Step.{twoMachines, numbered}
 

@@ -9,7 +9,7 @@ use Rattle.table.specs.Views.{messageAt, flight}
 use Rattle.table.proofs.Long.{Long, sized}
 use Rattle.table.proofs.Views.{Sized}
 use Rattle.validity.specs.Validity.{tableOk}
-use Rattle.messages.specs.Needs.{Within, Ready}
+use Rattle.table.specs.Needs.{Within, Ready}
 use Rattle.preservation.proofs.Ok.{Ok, tests, ok, used-most}
 use Rattle.preservation.proofs.Passed.{facts, message-facts}
 use Rattle.preservation.proofs.Accepted.{in-flight}

@@ -3,7 +3,7 @@ ghost use mathlib.Core.Path.{_≡_};
 ghost use mathlib.Core.Bool.{true, _&&_, _||_};
 ghost use lib.Dec.{eqb, leb};
 ghost use Rattle.validity.specs.Validity.{tableOk};
-ghost use Rattle.messages.specs.Needs.{Ready};
+ghost use Rattle.table.specs.Needs.{Ready};
 ghost use Rattle.dispatcher.specs.Codes.{lastCode};
 ghost use Rattle.dispatcher.specs.Step.{usesSecond, numbered, eventOf, answerOf, stepOf};
 use table::Answer;

@@ -4,6 +4,7 @@ use mathlib.Core.Logic.{_≢_}
 use Prim.Native.Nat.{ℕ, _<_}
 use native.Mathlib.Omega.{arith}
 use Rattle.table.specs.declared.Table.{Table}
+use Rattle.table.specs.Parts.{OPEN}
 use Rattle.table.specs.Views.{jobAt}
 use Rattle.invariant.proofs.State.{Whole}
 use Rattle.drain.proofs.Reach.{Reach, reach-map, reach-then}
@@ -14,7 +15,7 @@ use Rattle.drain.proofs.Jobs.{Resting, resting, Shut, shut-all}
 -- the invariant holds, and no job is open
 pub record Closed (t : Table) : Type 0 where
   pub whole : Whole t
-  pub shut : (j : ℕ) → j < 64 → jobAt t j .state ≢ 1
+  pub shut : (j : ℕ) → j < 64 → jobAt t j .state ≢ OPEN
 
 -- 15 + 640 + 32 + 192
 pub drain : (t : Table) → Whole t → Reach Closed t 879

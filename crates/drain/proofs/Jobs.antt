@@ -9,7 +9,7 @@ use Rattle.table.specs.declared.Job.{Job}
 use Rattle.table.specs.declared.Machine.{Machine}
 use Rattle.table.specs.declared.Table.{Table}
 use Rattle.table.specs.Views.{jobAt, nodeAt, poolAt, withPool}
-use Rattle.table.specs.Parts.{running, accept}
+use Rattle.table.specs.Parts.{running, accept, OPEN}
 use Rattle.table.proofs.Views.{Sized, views, sized-pool, node-same, node-other, node-pool}
 use Rattle.work.specs.Work.{started}
 use Rattle.lists.proofs.Cases.{byEq}
@@ -51,7 +51,7 @@ resting t q = reach-loop Resting 2 16 rest-one t (record { quiet = q; rests = λ
 -- besides, no job below k is open
 pub record Shut (k : ℕ) (t : Table) : Type 0 where
   pub resting : Resting 16 t
-  pub shut : (j : ℕ) → j < k → jobAt t j .state ≢ 1
+  pub shut : (j : ℕ) → j < k → jobAt t j .state ≢ OPEN
 
 module _ (t : Table) (a j : ℕ) (z : Sized t) (al : a < 16) where
   start-node : nodeAt (started t a j) a ≡ running (nodeAt t a) j (poolAt t a j)
@@ -79,7 +79,7 @@ module _ (t : Table) (a j : ℕ) (z : Sized t) (al : a < 16) where
   start-runs : (nodeAt (started t a j) a .«running_job» ≡ j) × (nodeAt (started t a j) a .«running_replica» ≡ poolAt t a j)
   start-runs = (ap (λ (n : Machine). n .«running_job») start-node ∙ unfold running in refl, ap (λ (n : Machine). n .«running_replica») start-node ∙ unfold running in refl)
 
-shut-open : (k : ℕ) (t : Table) → k < 64 → Shut k t → jobAt t k .state ≡ 1 → Reach (Shut (suc k)) t 3
+shut-open : (k : ℕ) (t : Table) → k < 64 → Shut k t → jobAt t k .state ≡ OPEN → Reach (Shut (suc k)) t 3
 shut-open k t kl h o =
     let q = h .resting .quiet in
     let w = q .whole in
@@ -105,7 +105,7 @@ shut-open k t kl h o =
 
 shut-one : (k : ℕ) (t : Table) → k < 64 → Shut k t → Reach (Shut (suc k)) t 3
 shut-one k t kl h =
-    byEq (jobAt t k .state) 1
+    byEq (jobAt t k .state) OPEN
     (shut-open k t kl h)
     (λ e. reach-here (Shut (suc k)) t 3 (record { resting = h .resting; shut = λ j l. byEq j k (λ d. rw d e) (λ d. h .shut j (omega arith)) }))
 

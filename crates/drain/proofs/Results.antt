@@ -16,7 +16,7 @@ use Rattle.table.specs.declared.Message.{Message}
 use Rattle.table.specs.declared.Table.{Table}
 use Rattle.table.specs.Views.{noMessage, bondAt, jobAt, nodeAt, toldAt, messageAt, flight, withJob, withNode}
 use Rattle.table.specs.Messages.{push, pull, send}
-use Rattle.table.specs.Parts.{priced, running, result, accept, RESULT}
+use Rattle.table.specs.Parts.{priced, running, result, accept, RESULT, OPEN}
 use Rattle.table.proofs.Views.{Sized, views, sized-node, node-same, node-other, node-messages, told-messages, job-messages, job-same, job-other, length-flight}
 use Rattle.table.proofs.Messages.{flight-push, sized-pull, message-flight}
 use Rattle.root_handlers.specs.RootHandlers.{onResult}
@@ -40,7 +40,7 @@ pub record Finished (t : Table) (a : ℕ) (u : Table) : Type 0 where
   pub quiet : Quiet u
   pub rests : nodeAt u a .«running_replica» ≡ 0
   pub others : (m : ℕ) → m ≢ a → nodeAt u m ≡ nodeAt t m
-  pub shut : jobAt u (nodeAt t a .«running_job») .state ≢ 1
+  pub shut : jobAt u (nodeAt t a .«running_job») .state ≢ OPEN
   pub jobs : (j : ℕ) → j ≢ nodeAt t a .«running_job» → jobAt u j ≡ jobAt t j
 
 handle-result : (s : Table) (x : Message) → x .kind ≡ RESULT → handle s x ≡ onResult s x
@@ -51,21 +51,21 @@ handle-result s x e =
 
 -- a RESULT leaves the job not open, and every other part as it was
 module _ (s : Table) (x : Message) (z : Sized s) (jl : x .job < 64) where
-  result-shut : jobAt (onResult s x) (x .job) .state ≢ 1
+  result-shut : jobAt (onResult s x) (x .job) .state ≢ OPEN
   unfolding onResult
   result-shut =
-      byBool (eqb (jobAt s (x .job) .state) 1)
+      byBool (eqb (jobAt s (x .job) .state) OPEN)
       (λ e. rw (e, onResult) (rw (job-same s z (x .job) (priced (jobAt s (x .job)) (x .price)) jl) (unfold priced in λ (d : _≡_ {A = ℕ} 2 1). omega arith)))
-      (λ e. rw (e, onResult) (eqb-false (jobAt s (x .job) .state) 1 e))
+      (λ e. rw (e, onResult) (eqb-false (jobAt s (x .job) .state) OPEN e))
 
   result-other : (j : ℕ) → j ≢ x .job → jobAt (onResult s x) j ≡ jobAt s j
   unfolding onResult
-  result-other j n = byBool (eqb (jobAt s (x .job) .state) 1) (λ e. rw (e, onResult) (job-other s (x .job) j (priced (jobAt s (x .job)) (x .price)) n)) (λ e. rw (e, onResult))
+  result-other j n = byBool (eqb (jobAt s (x .job) .state) OPEN) (λ e. rw (e, onResult) (job-other s (x .job) j (priced (jobAt s (x .job)) (x .price)) n)) (λ e. rw (e, onResult))
 
   -- a view that no job's update changes
   result-same : {A : Type 0} (f : Table → A) → ((v : Job) → f (withJob s (x .job) v) ≡ f s) → f (onResult s x) ≡ f s
   unfolding onResult
-  result-same f h = byBool (eqb (jobAt s (x .job) .state) 1) (λ e. rw (e, onResult) (h (priced (jobAt s (x .job)) (x .price)))) (λ e. rw (e, onResult))
+  result-same f h = byBool (eqb (jobAt s (x .job) .state) OPEN) (λ e. rw (e, onResult) (h (priced (jobAt s (x .job)) (x .price)))) (λ e. rw (e, onResult))
 
 module _ (t : Table) (a : ℕ) (q : Quiet t) (al : a < 16) (runs : nodeAt t a .«running_replica» ≢ 0) where
   y : Message
@@ -160,7 +160,7 @@ module _ (t : Table) (a : ℕ) (q : Quiet t) (al : a < 16) (runs : nodeAt t a .�
     unfolding pull
     u-jobs j e = ap (λ (v : Table). jobAt v j) u-is ∙ result-other s y s-sized y-job j (λ d. e (d ∙ y-parts .1)) ∙ job-messages (finished t a) _ _ j ∙ p-job j
 
-    u-shut : jobAt u (nodeAt t a .«running_job») .state ≢ 1
+    u-shut : jobAt u (nodeAt t a .«running_job») .state ≢ OPEN
     u-shut e = result-shut s y s-sized y-job (ap (λ (v : Table). jobAt v (y .job) .state) (sym u-is) ∙ ap (λ (j : ℕ). jobAt u j .state) (y-parts .1) ∙ e)
 
     u-finished : Whole u → Finished t a u

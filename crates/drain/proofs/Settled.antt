@@ -11,7 +11,7 @@ use Rattle.table.specs.declared.Machine.{Machine}
 use Rattle.table.specs.declared.Message.{Message}
 use Rattle.table.specs.declared.Table.{Table}
 use Rattle.table.specs.Views.{jobAt, nodeAt, poolAt, toldAt, flight}
-use Rattle.table.specs.Parts.{copyIs, reserves}
+use Rattle.table.specs.Parts.{copyIs, reserves, OPEN}
 use Rattle.lists.proofs.Cases.{byBool, byEq}
 use Rattle.lists.proofs.Count.{ind, count}
 use Rattle.invariant.proofs.State.{about, trip, resultFrom, has, held}
@@ -47,7 +47,7 @@ module _ (t : Table) (q : Quiet t) (rests : (m : ℕ) → m < 16 → nodeAt t m 
       let c = w .conserved m th (n .«reserved_job») (n .«reserved_replica») l (w .facts .machine m l .reserved-thief) a (w .side .copies m l .untold e) in
       absurd (omega (arith, c, none (about m th (n .«reserved_job») (n .«reserved_replica»)), ap ind (reserves-own n e))))
 
-  pub settled : (j : ℕ) → j < 64 → jobAt t j .state ≡ 1 → Pooled t j (jobAt t j .holder)
+  pub settled : (j : ℕ) → j < 64 → jobAt t j .state ≡ OPEN → Pooled t j (jobAt t j .holder)
   unfolding held has
   settled j h o =
       let w = q .whole in

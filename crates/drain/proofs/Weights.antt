@@ -11,9 +11,10 @@ use lib.Dec.{eqb, leb}
 use lib.ListN.{length}
 use Rattle.table.specs.declared.Message.{Message}
 use Rattle.table.specs.declared.Table.{Table}
-use Rattle.table.specs.Views.{jobAt, nodeAt, poolAt, toldAt, flight, withJob, withNode, withPool, enter}
-use Rattle.table.specs.Messages.{push, send, RoomFor, lowest}
-use Rattle.table.specs.Parts.{moved, placed, priced, reserve, release, waiting, reserves, returned, message, FISH, REQ, AUTH, DENIED, OBSOLETE, SCHEDULE, ACK, NOWORK, RESULT}
+use Rattle.table.specs.Views.{jobAt, nodeAt, poolAt, toldAt, flight, withJob, withNode, withPool}
+use Rattle.table.specs.Pools.{enter, lowest, returned}
+use Rattle.table.specs.Messages.{push, send, RoomFor}
+use Rattle.table.specs.Parts.{moved, placed, priced, reserve, release, waiting, reserves, message, FISH, REQ, AUTH, DENIED, OBSOLETE, SCHEDULE, ACK, NOWORK, RESULT, OPEN, PRICED}
 use Rattle.table.proofs.Messages.{flight-push}
 use Rattle.victim_handlers.specs.VictimHandlers.{noWork, grant, onFish, onAuth, onDenied, onObsolete}
 use Rattle.thief_handlers.specs.ThiefHandlers.{onSchedule, onNoWork}
@@ -111,7 +112,7 @@ module _ (s : Table) (x : Message) (h : Hand s x) where
   unfolding onReq weightOf
   req =
       let v = jobAt s (x .job) in
-      either (eqb (v .state) 2 || not (eqb (v .replica) (x .replica))) 3 s _ _ (answered s OBSOLETE own (omega arith))
+      either (eqb (v .state) PRICED || not (eqb (v .replica) (x .replica))) 3 s _ _ (answered s OBSOLETE own (omega arith))
       (either (not (eqb (toldAt s 0 (x .thief)) 0) || not (eqb (v .moving) 0)) 3 s _ _ (answered s DENIED own (omega arith))
       (answered (withJob s (x .job) (moved v (x .from) (x .thief))) AUTH (frame-job s s own (x .job) (moved v (x .from) (x .thief))) (omega arith)))
 
@@ -151,7 +152,7 @@ module _ (s : Table) (x : Message) (h : Hand s x) where
   ack : Sent 0 s (onAck s x)
   unfolding onAck
   ack =
-      either (eqb (jobAt s (x .job) .state) 1 && eqb (jobAt s (x .job) .replica) (x .replica)) 0 s _ s
+      either (eqb (jobAt s (x .job) .state) OPEN && eqb (jobAt s (x .job) .replica) (x .replica)) 0 s _ s
       (quiet 0 s _ (frame-job s s own (x .job) (placed (jobAt s (x .job)) (x .from))))
       (nothing 0)
 
@@ -162,7 +163,7 @@ module _ (s : Table) (x : Message) (h : Hand s x) where
   result : Sent 0 s (onResult s x)
   unfolding onResult
   result =
-      either (eqb (jobAt s (x .job) .state) 1) 0 s _ s
+      either (eqb (jobAt s (x .job) .state) OPEN) 0 s _ s
       (quiet 0 s _ (frame-job s s own (x .job) (priced (jobAt s (x .job)) (x .price))))
       (nothing 0)
 

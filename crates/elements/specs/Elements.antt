@@ -10,6 +10,7 @@ use Rattle.pricer.specs.declared.Terms.{Terms}
 use Rattle.pricer.specs.declared.Terms.the-variants.{Zero, Fixed}
 use Rattle.pricer.specs.Range.{inRange}
 use Rattle.table.specs.declared.Job.{Job}
+use Rattle.table.specs.Parts.{NOT-ADMITTED, OPEN, PRICED}
 use Rattle.table.specs.declared.Machine.{Machine}
 
 -- ---- a copy
@@ -37,11 +38,11 @@ bondOk entries j x = cond (ltb j entries) (inRange x) (emptyBond x)
 
 -- "a job not admitted has replica 0 and place 0", "a job not priced has price bits 0"
 abbrev pub emptyJob : Job → Bool
-emptyJob v = eqb (v .state) 0 && eqb (v .replica) 0 && eqb (v .moving) 0 && eqb (v .holder) 0 && eqb (v .thief) 0 && eqb (v .price) 0
+emptyJob v = eqb (v .state) NOT-ADMITTED && eqb (v .replica) 0 && eqb (v .moving) 0 && eqb (v .holder) 0 && eqb (v .thief) 0 && eqb (v .price) 0
 
 -- "open or priced"; "a job not priced has price bits 0"
 abbrev pub admittedOk : Job → Bool
-admittedOk v = eqb (v .state) 1 && eqb (v .price) 0 || eqb (v .state) 2
+admittedOk v = eqb (v .state) OPEN && eqb (v .price) 0 || eqb (v .state) PRICED
 
 -- "its place (on p, or moving from v to t)": machine numbers in their range, and no second one where the job is on p
 abbrev pub placeOk : ℕ → Job → Bool

@@ -42,7 +42,7 @@ pub fn bond_ok(entries: u8, j: u8, x: Bond) -> bool
 fn empty_job(v: Job) -> bool
     ensures { λ r. ⌜ r ≡ emptyJob v ⌝ }
 {
-    (v.state == 0)
+    (v.state == table::NOT_ADMITTED)
         & (v.replica == 0)
         & (v.moving == 0)
         & (v.holder == 0)
@@ -53,7 +53,7 @@ fn empty_job(v: Job) -> bool
 fn admitted_ok(v: Job) -> bool
     ensures { λ r. ⌜ r ≡ admittedOk v ⌝ }
 {
-    (v.state == 1) & (v.price == 0) | (v.state == 2)
+    (v.state == table::OPEN) & (v.price == 0) | (v.state == table::PRICED)
 }
 
 fn place_ok(machines: u8, v: Job) -> bool

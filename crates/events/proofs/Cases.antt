@@ -10,13 +10,13 @@ use Rattle.lists.proofs.Cases.{byBool}
 use Rattle.table.specs.declared.Table.{Table}
 use Rattle.table.specs.Views.{jobAt, nodeAt}
 use Rattle.table.specs.Messages.{oldest}
-use Rattle.table.specs.Parts.{lives}
+use Rattle.table.specs.Parts.{lives, NOT-ADMITTED}
 use Rattle.table.proofs.Refusals.{Judged}
 use Rattle.events.specs.Events.{admitted, admitOf, delivered, deliverOf, died, dieOf}
 
 pub record Admitting (t : Table) (a : ℕ) : Type 0 where
   pub entry : a < t .entries
-  pub new : jobAt t a .state ≡ 0
+  pub new : jobAt t a .state ≡ NOT-ADMITTED
 
 pub record Delivering (t : Table) (a b : ℕ) : Type 0 where
   pub slot : oldest t a b < t .«in_flight»
@@ -31,7 +31,7 @@ module _ (t : Table) (a : ℕ) (h : a < t .entries) where
   unfolding admitOf
   by-admit P refused f =
       let state = jobAt t a .state in
-      byBool (not (eqb state 0)) (λ e. rw (e, admitOf) (refused 13 refl))
+      byBool (not (eqb state NOT-ADMITTED)) (λ e. rw (e, admitOf) (refused 13 refl))
       (λ e. rw (e, admitOf) (f (record { entry = h; new = eqb-true state 0 (not-false _ e) })))
 
 module _ (t : Table) (a b : ℕ) where

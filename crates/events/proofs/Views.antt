@@ -5,7 +5,8 @@ use mathlib.Core.Logic.{_≢_}
 use Rattle.lists.specs.Scan.{filter}
 use Rattle.table.specs.declared.Table.{Table}
 use Rattle.table.specs.Views.{noMachine, bondAt, jobAt, nodeAt, poolAt, toldAt, flight}
-use Rattle.table.specs.Messages.{sift, notTo, wipe}
+use Rattle.table.specs.Messages.{sift, notTo}
+use Rattle.table.specs.Pools.{wipe}
 use Rattle.table.proofs.Views.{Sized, views, node-same, node-other}
 use Rattle.table.proofs.Messages.{flight-sift}
 use Rattle.table.proofs.Wipe.{machines-wipe, entries-wipe, bond-wipe, job-wipe, node-wipe, told-wipe, flight-wipe, sized-wipe, pool-wipe-own, pool-wipe-other}

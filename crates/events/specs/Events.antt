@@ -5,9 +5,10 @@ use Prim.Native.Nat.{ℕ}
 use lib.Dec.{eqb, leb}
 use Rattle.table.specs.declared.Table.{Table}
 use Rattle.table.specs.declared.Answer.{Answer}
-use Rattle.table.specs.Views.{noMachine, jobAt, messageAt, withJob, withNode, refuse, enter}
-use Rattle.table.specs.Messages.{oldest, pull, sift, notTo, wipe}
-use Rattle.table.specs.Parts.{opened, lives, accept}
+use Rattle.table.specs.Views.{noMachine, jobAt, messageAt, withJob, withNode, refuse}
+use Rattle.table.specs.Pools.{enter, wipe}
+use Rattle.table.specs.Messages.{oldest, pull, sift, notTo}
+use Rattle.table.specs.Parts.{opened, lives, accept, NOT-ADMITTED}
 use Rattle.handlers.specs.Handlers.{handle}
 
 -- "1. Admit a: job a becomes open, replica 1, on 0, and enters the root's pool."
@@ -17,7 +18,7 @@ admitted t a = enter (withJob t a (opened 1)) 0 a 1
 -- 13 already admitted
 unfoldable pub admitOf : Table → ℕ → Answer
 admitOf t a =
-    cond (not (eqb (jobAt t a .state) 0)) (refuse 13 t)
+    cond (not (eqb (jobAt t a .state) NOT-ADMITTED)) (refuse 13 t)
     (accept (admitted t a))
 
 -- "3. Deliver a b: the oldest message from a to b is taken off and handled by b."

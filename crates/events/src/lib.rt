@@ -5,7 +5,7 @@
 ghost use mathlib.Core.Path.{_≡_};
 ghost use Prim.Native.Nat.{_<_, _≤_};
 ghost use Rattle.table.specs.Messages.{oldest};
-ghost use Rattle.messages.specs.Needs.{Ready};
+ghost use Rattle.table.specs.Needs.{Ready};
 ghost use Rattle.events.specs.Events.{admitted, admitOf, delivered, deliverOf, died, dieOf};
 use table::Machine;
 use table::Table;
@@ -17,7 +17,7 @@ pub fn admit_number(t: Table, a: u8) -> u8
 {
     let jobs = t.jobs;
     let job = jobs[a as usize];
-    if job.state != 0 {
+    if job.state != table::NOT_ADMITTED {
         return 13;
     }
     0

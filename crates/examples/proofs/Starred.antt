@@ -14,9 +14,10 @@ use Rattle.term.specs.Term.{checked, termFrom, termOf}
 use Rattle.book.specs.Book.{sizesInRange, identifierAt, termAt, same, repeated, faultAt, lowestFaulty, lowestFault, bookVerdict}
 use Rattle.book.specs.Parts.{sizeAt, bondAt, bondOf}
 use Rattle.table.specs.declared.Table.{Table}
-use Rattle.table.specs.Views.{flight, jobAt, toldAt, parts, enter}
-use Rattle.table.specs.Messages.{push, pull, sift, send, oldest, lowest, wipe}
-use Rattle.table.specs.Parts.{pieces, copyIs, reserves, returned, message, result, opened, REQ, DENIED, ACK}
+use Rattle.table.specs.Views.{flight, jobAt, toldAt, parts}
+use Rattle.table.specs.Pools.{enter, lowest, wipe, returned}
+use Rattle.table.specs.Messages.{push, pull, sift, send, oldest}
+use Rattle.table.specs.Parts.{pieces, copyIs, reserves, message, result, opened, REQ, DENIED, ACK}
 use Rattle.table.proofs.Views.{Sized}
 use Rattle.validity.specs.Validity.{tableOk}
 use Rattle.opening.specs.Opening.{blank, bondsOf, nodesOf, freshOf, openOf}

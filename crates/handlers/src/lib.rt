@@ -1,6 +1,6 @@
 // What a machine does with a message that is delivered to it, by kind.
 ghost use mathlib.Core.Path.{_≡_};
-ghost use Rattle.messages.specs.Needs.{Room, Within};
+ghost use Rattle.table.specs.Needs.{Room, Within};
 ghost use Rattle.handlers.specs.Handlers.{handle};
 use table::Message;
 use table::Table;

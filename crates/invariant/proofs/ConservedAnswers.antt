@@ -14,7 +14,8 @@ use Rattle.table.specs.declared.Message.{Message}
 use Rattle.table.specs.declared.Table.{Table}
 use Rattle.table.specs.Views.{nodeAt, flight, withNode}
 use Rattle.table.specs.Messages.{send}
-use Rattle.table.specs.Parts.{copyIs, reserves, release, returned, message, REQ, SCHEDULE, NOWORK}
+use Rattle.table.specs.Parts.{copyIs, reserves, release, message, REQ, SCHEDULE, NOWORK}
+use Rattle.table.specs.Pools.{returned}
 use Rattle.table.proofs.Views.{node-same, node-other}
 use Rattle.victim_handlers.specs.VictimHandlers.{noWork, onAuth, onDenied, onObsolete}
 use Rattle.invariant.proofs.State.{Conserved, Hand, isAnswer, about}

@@ -5,7 +5,8 @@ use Prim.Native.Nat.{ℕ, _+_}
 use Rattle.pricer.specs.Price.{priceBits}
 use Rattle.table.specs.declared.Machine.{Machine}
 use Rattle.table.specs.declared.Table.{Table}
-use Rattle.table.specs.Views.{bondAt, nodeAt, poolAt, flight, withJob, withNode, withPool, enter}
+use Rattle.table.specs.Views.{bondAt, nodeAt, poolAt, flight, withJob, withNode, withPool}
+use Rattle.table.specs.Pools.{enter}
 use Rattle.table.specs.Parts.{opened, reserves, running, waiting, message, result, FISH}
 use Rattle.table.proofs.Views.{views, node-pool}
 use Rattle.events.specs.Events.{admitted}

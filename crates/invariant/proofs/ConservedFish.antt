@@ -14,7 +14,7 @@ use Rattle.table.specs.declared.Machine.{Machine}
 use Rattle.table.specs.declared.Message.{Message}
 use Rattle.table.specs.declared.Table.{Table}
 use Rattle.table.specs.Views.{nodeAt, poolAt, flight, withNode, withPool}
-use Rattle.table.specs.Messages.{lowest}
+use Rattle.table.specs.Pools.{lowest}
 use Rattle.table.specs.Parts.{copyIs, reserves, reserve, message, REQ, FISH, NOWORK}
 use Rattle.table.proofs.Views.{node-same, node-other, node-pool, sized-pool}
 use Rattle.victim_handlers.specs.VictimHandlers.{noWork, grant, onFish}

@@ -12,8 +12,9 @@ use Rattle.lists.proofs.Count.{ind}
 use Rattle.table.specs.declared.Job.{Job}
 use Rattle.table.specs.declared.Message.{Message}
 use Rattle.table.specs.declared.Table.{Table}
-use Rattle.table.specs.Views.{jobAt, nodeAt, toldAt, flight, withJob, withNode, enter}
-use Rattle.table.specs.Parts.{moved, placed, priced, reserves, waiting, message, REQ, AUTH, DENIED, OBSOLETE, SCHEDULE, ACK, NOWORK, RESULT}
+use Rattle.table.specs.Views.{jobAt, nodeAt, toldAt, flight, withJob, withNode}
+use Rattle.table.specs.Pools.{enter}
+use Rattle.table.specs.Parts.{moved, placed, priced, reserves, waiting, message, REQ, AUTH, DENIED, OBSOLETE, SCHEDULE, ACK, NOWORK, RESULT, OPEN, PRICED}
 use Rattle.table.proofs.Views.{views}
 use Rattle.root_handlers.specs.RootHandlers.{reply, onReq, onAck, onResult}
 use Rattle.thief_handlers.specs.ThiefHandlers.{onSchedule, onNoWork}
@@ -44,7 +45,7 @@ module _ (s : Table) (x : Message) (h : Hand s x) (c : Conserved s (x ∷ flight
   pub conserved-req : x .kind ≡ REQ → Conserved (onReq s x) (flight (onReq s x))
   unfolding onReq
   conserved-req e =
-      byBool (eqb (jobAt s (x .job) .state) 2 || not (eqb (jobAt s (x .job) .replica) (x .replica)))
+      byBool (eqb (jobAt s (x .job) .state) PRICED || not (eqb (jobAt s (x .job) .replica) (x .replica)))
       (λ a. rw (a, onReq) (answers OBSOLETE s here (λ m j q th. refl) e (unfold isAnswer in refl) refl))
       (λ a. byBool (not (eqb (toldAt s 0 (x .thief)) 0) || not (eqb (jobAt s (x .job) .moving) 0))
       (λ b. rw (a, b, onReq) (answers DENIED s here (λ m j q th. refl) e (unfold isAnswer in refl) refl))
@@ -59,7 +60,7 @@ module _ (s : Table) (x : Message) (h : Hand s x) (c : Conserved s (x ∷ flight
   unfolding onAck
   conserved-ack e =
       let k : Conserved s (flight s) = forgets (unfold plain isAnswer in rw e) in
-      byBool (eqb (jobAt s (x .job) .state) 1 && eqb (jobAt s (x .job) .replica) (x .replica))
+      byBool (eqb (jobAt s (x .job) .state) OPEN && eqb (jobAt s (x .job) .replica) (x .replica))
       (λ a. rw (a, onAck) (conserved-quiet s (withJob s (x .job) (placed (jobAt s (x .job)) (x .from))) (frame-job s s here (x .job) _) (same-job s (x .job) _) k))
       (λ a. rw (a, onAck) k)
 
@@ -67,7 +68,7 @@ module _ (s : Table) (x : Message) (h : Hand s x) (c : Conserved s (x ∷ flight
   unfolding onResult
   conserved-result e =
       let k : Conserved s (flight s) = forgets (unfold plain isAnswer in rw e) in
-      byBool (eqb (jobAt s (x .job) .state) 1)
+      byBool (eqb (jobAt s (x .job) .state) OPEN)
       (λ a. rw (a, onResult) (conserved-quiet s (withJob s (x .job) (priced (jobAt s (x .job)) (x .price))) (frame-job s s here (x .job) _) (same-job s (x .job) _) k))
       (λ a. rw (a, onResult) k)
 

@@ -6,9 +6,10 @@ use Prim.Native.Nat.{ℕ, _<_, max}
 use Rattle.table.specs.declared.Job.{Job}
 use Rattle.table.specs.declared.Machine.{Machine}
 use Rattle.table.specs.declared.Table.{Table}
-use Rattle.table.specs.Views.{jobAt, nodeAt, poolAt, toldAt, flight, withJob, withNode, withPool, enter}
+use Rattle.table.specs.Views.{jobAt, nodeAt, poolAt, toldAt, flight, withJob, withNode, withPool}
+use Rattle.table.specs.Pools.{enter, returned}
 use Rattle.table.specs.Messages.{RoomFor}
-use Rattle.table.specs.Parts.{release, returned}
+use Rattle.table.specs.Parts.{release}
 use Rattle.table.proofs.Views.{Sized, views, sized-job, sized-node, sized-pool, node-same, node-other, part-node, node-pool}
 use Rattle.preservation.proofs.Sizes.{sized-enter}
 

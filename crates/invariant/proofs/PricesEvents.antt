@@ -15,7 +15,7 @@ use Rattle.table.specs.declared.Message.{Message}
 use Rattle.table.specs.declared.Table.{Table}
 use Rattle.table.specs.Views.{bondAt, jobAt, nodeAt, poolAt, flight, withJob, withNode, withPool}
 use Rattle.table.specs.Messages.{notTo, notFrom, send, RoomFor}
-use Rattle.table.specs.Parts.{opened, running, message, result}
+use Rattle.table.specs.Parts.{opened, running, message, result, PRICED}
 use Rattle.table.proofs.Views.{views}
 use Rattle.events.specs.Events.{admitted, died}
 use Rattle.events.proofs.Cases.{Admitting}
@@ -41,12 +41,12 @@ unfolding result
 right-result t a j r k = refl
 
 -- an open job shows no price
-open-unpriced : (r bits : ℕ) → opened r .state ≡ 2 → opened r .price ≡ bits
+open-unpriced : (r bits : ℕ) → opened r .state ≡ PRICED → opened r .price ≡ bits
 unfolding opened
 open-unpriced r bits = λ (e : _≡_ {A = ℕ} 1 2). absurd (omega arith)
 
 -- a job that was issued again shows no price, any other the one it had
-reissued-price : (v : Job) (b bits : ℕ) → (v .state ≡ 2 → v .price ≡ bits) → reissuedJob v b .state ≡ 2 → reissuedJob v b .price ≡ bits
+reissued-price : (v : Job) (b bits : ℕ) → (v .state ≡ PRICED → v .price ≡ bits) → reissuedJob v b .state ≡ PRICED → reissuedJob v b .price ≡ bits
 unfolding reissuedJob
 reissued-price v b bits p = byBool (lost v b) (λ e. rw e (open-unpriced (v .replica + 1) bits)) (λ e. rw e p)
 

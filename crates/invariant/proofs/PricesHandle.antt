@@ -14,9 +14,10 @@ use Rattle.table.specs.declared.Job.{Job}
 use Rattle.table.specs.declared.Machine.{Machine}
 use Rattle.table.specs.declared.Message.{Message}
 use Rattle.table.specs.declared.Table.{Table}
-use Rattle.table.specs.Views.{bondAt, jobAt, nodeAt, poolAt, toldAt, messageAt, flight, withJob, withNode, withPool, withMessages, enter}
-use Rattle.table.specs.Messages.{pull, send, RoomFor, lowest}
-use Rattle.table.specs.Parts.{moved, placed, priced, reserve, release, waiting, reserves, returned, message, REQ, AUTH, DENIED, OBSOLETE, SCHEDULE, ACK, NOWORK, RESULT}
+use Rattle.table.specs.Views.{bondAt, jobAt, nodeAt, poolAt, toldAt, messageAt, flight, withJob, withNode, withPool, withMessages}
+use Rattle.table.specs.Pools.{enter, lowest, returned}
+use Rattle.table.specs.Messages.{pull, send, RoomFor}
+use Rattle.table.specs.Parts.{moved, placed, priced, reserve, release, waiting, reserves, message, REQ, AUTH, DENIED, OBSOLETE, SCHEDULE, ACK, NOWORK, RESULT, OPEN, PRICED}
 use Rattle.table.proofs.Views.{Sized, views, job-same, job-other, flight-job, bond-messages}
 use Rattle.victim_handlers.specs.VictimHandlers.{noWork, grant, onFish, onAuth, onDenied, onObsolete}
 use Rattle.thief_handlers.specs.ThiefHandlers.{onSchedule, onNoWork}
@@ -34,7 +35,7 @@ use Rattle.dispatcher.proofs.Fixed.{fixed-bond, fixed-handle}
 -- clause X of u and l, by the terms that s has
 pub record PricesBy (s u : Table) (l : List Message) : Type 0 where
   pub sent : Every (RightPrice s) l
-  pub shown : (j : ℕ) → j < 64 → jobAt u j .state ≡ 2 → jobAt u j .price ≡ priceBits (bondAt s j)
+  pub shown : (j : ℕ) → j < 64 → jobAt u j .state ≡ PRICED → jobAt u j .price ≡ priceBits (bondAt s j)
 
 -- u has the terms of s
 pub prices-by : (s u : Table) (l : List Message) → ((j : ℕ) → bondAt u j ≡ bondAt s j) → PricesBy s u l → Prices u l
@@ -65,7 +66,7 @@ module _ (s : Table) where
   by-frame u f e p = record { sent = rw (f .flight) (p .sent); shown = λ j h. rw (e j) (p .shown j h) }
 
   -- job i is v
-  pub by-job : (i : ℕ) (v : Job) → Sized s → i < 64 → (v .state ≡ 2 → v .price ≡ priceBits (bondAt s i)) → PricesBy s s (flight s) → PricesBy s (withJob s i v) (flight (withJob s i v))
+  pub by-job : (i : ℕ) (v : Job) → Sized s → i < 64 → (v .state ≡ PRICED → v .price ≡ priceBits (bondAt s i)) → PricesBy s s (flight s) → PricesBy s (withJob s i v) (flight (withJob s i v))
   by-job i v z l e p = record {
     sent = rw (flight-job s i v) (p .sent);
     shown = λ j h. byEq j i (λ d. rw (d, job-same s z i v l) e) (λ d. rw (job-other s i j v d) (p .shown j h));
@@ -118,7 +119,7 @@ module _ (s : Table) (x : Message) (h : Hand s x) (p : PricesBy s s (flight s)) 
   right-req : Right (onReq s x)
   unfolding onReq
   right-req =
-      byBool (eqb (jobAt s (x .job) .state) 2 || not (eqb (jobAt s (x .job) .replica) (x .replica)))
+      byBool (eqb (jobAt s (x .job) .state) PRICED || not (eqb (jobAt s (x .job) .replica) (x .replica)))
       (λ a. rw (a, onReq) (right-reply s OBSOLETE here p refl))
       (λ a. byBool (not (eqb (toldAt s 0 (x .thief)) 0) || not (eqb (jobAt s (x .job) .moving) 0))
       (λ b. rw (a, b, onReq) (right-reply s DENIED here p refl))
@@ -162,7 +163,7 @@ module _ (s : Table) (x : Message) (h : Hand s x) (p : PricesBy s s (flight s)) 
   right-ack : Right (onAck s x)
   unfolding onAck placed
   right-ack =
-      byBool (eqb (jobAt s (x .job) .state) 1 && eqb (jobAt s (x .job) .replica) (x .replica))
+      byBool (eqb (jobAt s (x .job) .state) OPEN && eqb (jobAt s (x .job) .replica) (x .replica))
       (λ a. rw (a, onAck) (by-job s (x .job) _ (h .sized) (h .message .job) (p .shown (x .job) (h .message .job)) p))
       (λ a. rw (a, onAck) p)
 
@@ -170,7 +171,7 @@ module _ (s : Table) (x : Message) (h : Hand s x) (p : PricesBy s s (flight s)) 
   right-result : x .kind ≡ RESULT → Right (onResult s x)
   unfolding onResult priced
   right-result k =
-      byBool (eqb (jobAt s (x .job) .state) 1)
+      byBool (eqb (jobAt s (x .job) .state) OPEN)
       (λ a. rw (a, onResult) (by-job s (x .job) _ (h .sized) (h .message .job) (λ e. r k) p))
       (λ a. rw (a, onResult) p)
 

@@ -9,9 +9,10 @@ use Rattle.lists.specs.Scan.{filter}
 use Rattle.lists.proofs.Cases.{byBool}
 use Rattle.table.specs.declared.Machine.{Machine}
 use Rattle.table.specs.declared.Table.{Table}
-use Rattle.table.specs.Views.{nodeAt, toldAt, flight, withMessages, enter}
+use Rattle.table.specs.Views.{nodeAt, toldAt, flight, withMessages}
+use Rattle.table.specs.Pools.{enter, returned}
 use Rattle.table.specs.Messages.{sift, notFrom}
-use Rattle.table.specs.Parts.{release, waiting, returned}
+use Rattle.table.specs.Parts.{release, waiting}
 use Rattle.table.proofs.Views.{Sized, views, node-same, node-other, told-same, told-other, told-other-node, told-messages, flight-told}
 use Rattle.table.proofs.Messages.{flight-sift, sized-sift}
 use Rattle.notice.specs.Notice.{informed, unwaited, reclaimed, quieted}

@@ -10,7 +10,8 @@ use Rattle.lists.proofs.Cases.{byBool, byEq, cond-elim}
 use Rattle.lists.proofs.Keeps.{up-each, up-keeps}
 use Rattle.table.specs.declared.Job.{Job}
 use Rattle.table.specs.declared.Table.{Table}
-use Rattle.table.specs.Views.{jobAt, nodeAt, toldAt, flight, withJob, enter}
+use Rattle.table.specs.Views.{jobAt, nodeAt, toldAt, flight, withJob}
+use Rattle.table.specs.Pools.{enter}
 use Rattle.table.specs.Parts.{opened}
 use Rattle.table.proofs.Views.{Sized, views, job-same, job-other, job-pool}
 use Rattle.notice.specs.Notice.{lost, reissueOne, reissue}

@@ -12,7 +12,8 @@ use Rattle.lists.proofs.Count.{Every, every-map, every-filter}
 use Rattle.table.specs.declared.Machine.{Machine}
 use Rattle.table.specs.declared.Message.{Message}
 use Rattle.table.specs.declared.Table.{Table}
-use Rattle.table.specs.Views.{noMachine, bondAt, jobAt, nodeAt, poolAt, flight, withJob, withNode, withPool, enter}
+use Rattle.table.specs.Views.{noMachine, bondAt, jobAt, nodeAt, poolAt, flight, withJob, withNode, withPool}
+use Rattle.table.specs.Pools.{enter}
 use Rattle.table.specs.Messages.{notTo, send, RoomFor}
 use Rattle.table.specs.Parts.{opened, running, waiting, message, result, FISH}
 use Rattle.table.proofs.Views.{views, node-same, node-other, node-pool, flight-job}

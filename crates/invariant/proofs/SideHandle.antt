@@ -13,9 +13,10 @@ use Rattle.lists.proofs.Count.{Every}
 use Rattle.table.specs.declared.Machine.{Machine}
 use Rattle.table.specs.declared.Message.{Message}
 use Rattle.table.specs.declared.Table.{Table}
-use Rattle.table.specs.Views.{jobAt, nodeAt, poolAt, toldAt, messageAt, flight, withJob, withNode, withPool, enter}
-use Rattle.table.specs.Messages.{pull, send, lowest}
-use Rattle.table.specs.Parts.{moved, placed, priced, reserve, release, waiting, reserves, returned, message, REQ, AUTH, DENIED, OBSOLETE, SCHEDULE, ACK, NOWORK}
+use Rattle.table.specs.Views.{jobAt, nodeAt, poolAt, toldAt, messageAt, flight, withJob, withNode, withPool}
+use Rattle.table.specs.Pools.{enter, lowest, returned}
+use Rattle.table.specs.Messages.{pull, send}
+use Rattle.table.specs.Parts.{moved, placed, priced, reserve, release, waiting, reserves, message, REQ, AUTH, DENIED, OBSOLETE, SCHEDULE, ACK, NOWORK, OPEN, PRICED}
 use Rattle.table.proofs.Views.{views, node-same, node-other, node-pool, flight-job}
 use Rattle.victim_handlers.specs.VictimHandlers.{noWork, grant, onFish, onAuth, onDenied, onObsolete}
 use Rattle.thief_handlers.specs.ThiefHandlers.{onSchedule, onNoWork}
@@ -134,7 +135,7 @@ module _ (s : Table) (x : Message) (h : Hand s x) (pools : (m j : ℕ) → m < 1
   side-req : x .kind ≡ REQ → Sides (onReq s x)
   unfolding onReq
   side-req k =
-      byBool (eqb (jobAt s (x .job) .state) 2 || not (eqb (jobAt s (x .job) .replica) (x .replica)))
+      byBool (eqb (jobAt s (x .job) .state) PRICED || not (eqb (jobAt s (x .job) .replica) (x .replica)))
       (λ a. rw (a, onReq) (side-reply OBSOLETE))
       (λ a. byBool (not (eqb (toldAt s 0 (x .thief)) 0) || not (eqb (jobAt s (x .job) .moving) 0))
       (λ b. rw (a, b, onReq) (side-reply DENIED))
@@ -195,7 +196,7 @@ module _ (s : Table) (x : Message) (h : Hand s x) (pools : (m j : ℕ) → m < 1
   side-ack : x .kind ≡ ACK → Sides (onAck s x)
   unfolding onAck placed
   side-ack k =
-      byBool (eqb (jobAt s (x .job) .state) 1 && eqb (jobAt s (x .job) .replica) (x .replica))
+      byBool (eqb (jobAt s (x .job) .state) OPEN && eqb (jobAt s (x .job) .replica) (x .replica))
       (λ a. rw (a, onAck) (simp flight-job (side-job s (x ∷ flight s) (flight s) (x .job) _ (h .sized) (h .message .job) (omega arith)
       (record { holder = λ e. sender-told (h .message .root (rw k)); thief = λ e (f : _≡_ {A = ℕ} 0 1). absurd (omega arith) }) (d .sender .1) d)))
       (λ a. rw (a, onAck) gone)
@@ -203,7 +204,7 @@ module _ (s : Table) (x : Message) (h : Hand s x) (pools : (m j : ℕ) → m < 1
   side-result : Sides (onResult s x)
   unfolding onResult priced
   side-result =
-      byBool (eqb (jobAt s (x .job) .state) 1)
+      byBool (eqb (jobAt s (x .job) .state) OPEN)
       (λ a. rw (a, onResult) (simp flight-job (side-job s (x ∷ flight s) (flight s) (x .job) _ (h .sized) (h .message .job) (omega arith)
       (record { holder = λ (e : _≡_ {A = ℕ} 2 1). absurd (omega arith); thief = λ (e : _≡_ {A = ℕ} 2 1) f. absurd (omega arith) }) (d .sender .1) d)))
       (λ a. rw (a, onResult) gone)

@@ -18,7 +18,7 @@ use Rattle.table.specs.declared.Message.{Message}
 use Rattle.table.specs.declared.Table.{Table}
 use Rattle.table.specs.Views.{jobAt, nodeAt, toldAt, flight}
 use Rattle.table.specs.Messages.{notFrom}
-use Rattle.table.specs.Parts.{opened}
+use Rattle.table.specs.Parts.{opened, OPEN}
 use Rattle.notice.specs.Notice.{lost, quieted, reissue, noticed}
 use Rattle.notice.proofs.Cases.{Noticing}
 use Rattle.preservation.proofs.Facts.{MessageFacts}
@@ -30,9 +30,9 @@ use Rattle.notice.proofs.Parts.{job-quieted}
 use Rattle.invariant.proofs.Reissued.{reissuedJob, node-reissue, told-reissue, flight-reissue, job-reissue, job-reissue-past}
 
 -- a job that is not lost names b neither as holder nor, while it moves, as thief
-kept-job : (v : Job) (b : ℕ) → lost v b ≡ false → v .state ≡ 1 → (v .holder ≢ b) × (v .moving ≡ 1 → v .thief ≢ b)
+kept-job : (v : Job) (b : ℕ) → lost v b ≡ false → v .state ≡ OPEN → (v .holder ≢ b) × (v .moving ≡ 1 → v .thief ≢ b)
 kept-job v b e o =
-    let f : eqb (v .holder) b || eqb (v .moving) 1 && eqb (v .thief) b ≡ false = rw (eq-eqb (v .state) 1 o) at e in (
+    let f : eqb (v .holder) b || eqb (v .moving) 1 && eqb (v .thief) b ≡ false = rw (eq-eqb (v .state) OPEN o) at e in (
       (λ d. true≢false (sym (ap (λ (c : Bool). c || eqb (v .moving) 1 && eqb (v .thief) b) (eq-eqb (v .holder) b d)) ∙ f)),
       (λ m d. true≢false (sym (moves (eqb (v .holder) b) (eqb (v .moving) 1) (eqb (v .thief) b) (eq-eqb (v .moving) 1 m) (eq-eqb (v .thief) b d)) ∙ f)),
     )
@@ -103,7 +103,7 @@ module _ (t : Table) (a b : ℕ) (w : Whole t) (al : a < 16) (bl : b < 16) (gone
         (λ e. rw (node-quieted-other t a b m e) (copies-u m (nodeAt t m) c th (λ p q. absurd (e q)))))
 
     -- a place that does not name b where a is the root
-    placed-u : (v : Job) → v .holder < 16 → v .thief < 16 → Placed t v → (v .state ≡ 1 → 0 ≡ a → v .holder ≢ b) → (v .state ≡ 1 → v .moving ≡ 1 → 0 ≡ a → v .thief ≢ b) → Placed u v
+    placed-u : (v : Job) → v .holder < 16 → v .thief < 16 → Placed t v → (v .state ≡ OPEN → 0 ≡ a → v .holder ≢ b) → (v .state ≡ OPEN → v .moving ≡ 1 → 0 ≡ a → v .thief ≢ b) → Placed u v
     placed-u v hl tl p q r = record {
       holder = λ e. told-same 0 (v .holder) hl (q e) ∙ p .holder e;
       thief = λ e f. told-same 0 (v .thief) tl (r e f) ∙ p .thief e f;

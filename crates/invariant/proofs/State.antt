@@ -16,7 +16,7 @@ use Rattle.table.specs.declared.Machine.{Machine}
 use Rattle.table.specs.declared.Message.{Message}
 use Rattle.table.specs.declared.Table.{Table}
 use Rattle.table.specs.Views.{bondAt, jobAt, nodeAt, poolAt, toldAt, flight}
-use Rattle.table.specs.Parts.{copyIs, reserves, REQ, AUTH, OBSOLETE, SCHEDULE, ACK, RESULT}
+use Rattle.table.specs.Parts.{copyIs, reserves, REQ, AUTH, OBSOLETE, SCHEDULE, ACK, RESULT, OPEN, PRICED}
 use Rattle.table.proofs.Views.{Sized}
 use Rattle.lists.proofs.Count.{ind, count, Every}
 use Rattle.preservation.proofs.Ok.{Ok, Valid}
@@ -91,9 +91,9 @@ pub record Known (t : Table) (x : Message) : Type 0 where
   -- R: no replica number above the job's
   pub cap : x .replica ≤ jobAt t (x .job) .replica
   -- O: an OBSOLETE is not of an open job's current copy
-  pub old : x .kind ≡ OBSOLETE → jobAt t (x .job) .state ≡ 1 → x .replica < jobAt t (x .job) .replica
+  pub old : x .kind ≡ OBSOLETE → jobAt t (x .job) .state ≡ OPEN → x .replica < jobAt t (x .job) .replica
   -- routes
-  pub ends : jobAt t (x .job) .state ≡ 1 → x .replica ≡ jobAt t (x .job) .replica → Ends t x
+  pub ends : jobAt t (x .job) .state ≡ OPEN → x .replica ≡ jobAt t (x .job) .replica → Ends t x
 
 pub record Trip (t : Table) (l : List Message) : Type 0 where
   -- R, O, routes
@@ -101,14 +101,14 @@ pub record Trip (t : Table) (l : List Message) : Type 0 where
   -- R: the pools
   pub pools : (m j : ℕ) → m < 16 → j < 64 → poolAt t m j ≤ jobAt t j .replica
   -- N: an open job has at most one message on its way, and none while it is on one machine
-  pub moves : (j : ℕ) → j < 64 → jobAt t j .state ≡ 1 → count (trip j (jobAt t j .replica)) l ≤ jobAt t j .moving
+  pub moves : (j : ℕ) → j < 64 → jobAt t j .state ≡ OPEN → count (trip j (jobAt t j .replica)) l ≤ jobAt t j .moving
   -- S: an open job on p is held there
-  pub on : (j : ℕ) → j < 64 → jobAt t j .state ≡ 1 → jobAt t j .moving ≡ 0 → 1 ≤ held t l j (jobAt t j .replica) (jobAt t j .holder)
+  pub on : (j : ℕ) → j < 64 → jobAt t j .state ≡ OPEN → jobAt t j .moving ≡ 0 → 1 ≤ held t l j (jobAt t j .replica) (jobAt t j .holder)
   -- S: an open job moves between two machines of which one is dead, or a message is on its way
-  pub moved : (j : ℕ) → j < 64 → jobAt t j .state ≡ 1 → jobAt t j .moving ≡ 1
+  pub moved : (j : ℕ) → j < 64 → jobAt t j .state ≡ OPEN → jobAt t j .moving ≡ 1
       → 1 ≤ dead t (jobAt t j .holder) + dead t (jobAt t j .thief) + count (trip j (jobAt t j .replica)) l
   -- H: who sent an ACK of an open job's current copy holds it
-  pub acked : (j p : ℕ) → j < 64 → p < 16 → jobAt t j .state ≡ 1 → 1 ≤ count (ackFrom j (jobAt t j .replica) p) l → 1 ≤ held t l j (jobAt t j .replica) p
+  pub acked : (j p : ℕ) → j < 64 → p < 16 → jobAt t j .state ≡ OPEN → 1 ≤ count (ackFrom j (jobAt t j .replica) p) l → 1 ≤ held t l j (jobAt t j .replica) p
 
 -- of a message's sender
 pub record Sender (t : Table) (x : Message) : Type 0 where
@@ -128,8 +128,8 @@ pub record Copies (t : Table) (m : ℕ) (n : Machine) : Type 0 where
 
 -- P: the root was not told that a machine of an open job's place is dead
 pub record Placed (t : Table) (v : Job) : Type 0 where
-  pub holder : v .state ≡ 1 → toldAt t 0 (v .holder) ≡ 0
-  pub thief : v .state ≡ 1 → v .moving ≡ 1 → toldAt t 0 (v .thief) ≡ 0
+  pub holder : v .state ≡ OPEN → toldAt t 0 (v .holder) ≡ 0
+  pub thief : v .state ≡ OPEN → v .moving ≡ 1 → toldAt t 0 (v .thief) ≡ 0
 
 pub record Side (t : Table) (l : List Message) : Type 0 where
   -- D1, F
@@ -146,7 +146,7 @@ RightPrice t x = x .kind ≡ RESULT → x .price ≡ priceBits (bondAt t (x .job
 -- X: prices are the formula's
 pub record Prices (t : Table) (l : List Message) : Type 0 where
   pub sent : Every (RightPrice t) l
-  pub shown : (j : ℕ) → j < 64 → jobAt t j .state ≡ 2 → jobAt t j .price ≡ priceBits (bondAt t j)
+  pub shown : (j : ℕ) → j < 64 → jobAt t j .state ≡ PRICED → jobAt t j .price ≡ priceBits (bondAt t j)
 
 -- the whole invariant of a table between two events
 pub record Whole (t : Table) : Type 0 where

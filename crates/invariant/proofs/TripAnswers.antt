@@ -13,7 +13,8 @@ use Rattle.table.specs.declared.Message.{Message}
 use Rattle.table.specs.declared.Table.{Table}
 use Rattle.table.specs.Views.{jobAt, nodeAt, toldAt, flight, withNode}
 use Rattle.table.specs.Messages.{send}
-use Rattle.table.specs.Parts.{copyIs, reserves, release, returned, message, REQ, AUTH, DENIED, OBSOLETE, SCHEDULE, NOWORK}
+use Rattle.table.specs.Parts.{copyIs, reserves, release, message, REQ, AUTH, DENIED, OBSOLETE, SCHEDULE, NOWORK}
+use Rattle.table.specs.Pools.{returned}
 use Rattle.table.proofs.Views.{views, pool-node}
 use Rattle.victim_handlers.specs.VictimHandlers.{noWork, onAuth, onDenied, onObsolete}
 use Rattle.lists.proofs.Cases.{byBool, byEq, and-left, and-right}

@@ -9,8 +9,9 @@ use lib.Dec.{eqb}
 use borrow.Author.Tests.{eq-eqb, ne-eqb, eqb-true}
 use Rattle.table.specs.declared.Machine.{Machine}
 use Rattle.table.specs.declared.Table.{Table}
-use Rattle.table.specs.Views.{jobAt, nodeAt, poolAt, withNode, withPool, enter}
-use Rattle.table.specs.Parts.{reserve, release, running, waiting, returned}
+use Rattle.table.specs.Views.{jobAt, nodeAt, poolAt, withNode, withPool}
+use Rattle.table.specs.Pools.{enter, returned}
+use Rattle.table.specs.Parts.{reserve, release, running, waiting}
 use Rattle.table.proofs.Views.{Sized, sized-pool, node-same, node-other, node-pool, pool-node, pool-same, pool-other-job, pool-other-node, alive-node, part-node}
 use Rattle.lists.proofs.Cases.{byBool, byEq, and-left, and-right, and-false}
 use Rattle.lists.proofs.Count.{ind}

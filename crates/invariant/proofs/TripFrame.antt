@@ -12,7 +12,7 @@ use Rattle.table.specs.declared.Job.{Job}
 use Rattle.table.specs.declared.Message.{Message}
 use Rattle.table.specs.declared.Table.{Table}
 use Rattle.table.specs.Views.{noMessage, jobAt, nodeAt, poolAt}
-use Rattle.table.specs.Parts.{AUTH, SCHEDULE, ACK, RESULT}
+use Rattle.table.specs.Parts.{AUTH, SCHEDULE, ACK, RESULT, OPEN}
 use Rattle.lists.proofs.Cases.{byBool, byEq}
 use Rattle.lists.proofs.Count.{ind, count, Every, every-map}
 use Rattle.invariant.proofs.State.{Trip, Known, Ends, trip, isTrip, ackFrom, resultFrom, dead, has, held}
@@ -22,10 +22,10 @@ use Rattle.invariant.proofs.TripLaws.{dead-is, dead-same, trip-eqs, tri
 pub trip-frame : (t u : Table) (l : List Message) → ((j : ℕ) → jobAt u j ≡ jobAt t j)
     → Every (Known t) l
     → ((m j : ℕ) → m < 16 → j < 64 → poolAt u m j ≤ jobAt t j .replica)
-    → ((j : ℕ) → j < 64 → jobAt t j .state ≡ 1 → count (trip j (jobAt t j .replica)) l ≤ jobAt t j .moving)
-    → ((j : ℕ) → j < 64 → jobAt t j .state ≡ 1 → jobAt t j .moving ≡ 0 → 1 ≤ held u l j (jobAt t j .replica) (jobAt t j .holder))
-    → ((j : ℕ) → j < 64 → jobAt t j .state ≡ 1 → jobAt t j .moving ≡ 1 → 1 ≤ dead u (jobAt t j .holder) + dead u (jobAt t j .thief) + count (trip j (jobAt t j .replica)) l)
-    → ((j p : ℕ) → j < 64 → p < 16 → jobAt t j .state ≡ 1 → 1 ≤ count (ackFrom j (jobAt t j .replica) p) l → 1 ≤ held u l j (jobAt t j .replica) p)
+    → ((j : ℕ) → j < 64 → jobAt t j .state ≡ OPEN → count (trip j (jobAt t j .replica)) l ≤ jobAt t j .moving)
+    → ((j : ℕ) → j < 64 → jobAt t j .state ≡ OPEN → jobAt t j .moving ≡ 0 → 1 ≤ held u l j (jobAt t j .replica) (jobAt t j .holder))
+    → ((j : ℕ) → j < 64 → jobAt t j .state ≡ OPEN → jobAt t j .moving ≡ 1 → 1 ≤ dead u (jobAt t j .holder) + dead u (jobAt t j .thief) + count (trip j (jobAt t j .replica)) l)
+    → ((j p : ℕ) → j < 64 → p < 16 → jobAt t j .state ≡ OPEN → 1 ≤ count (ackFrom j (jobAt t j .replica) p) l → 1 ≤ held u l j (jobAt t j .replica) p)
     → Trip u l
 trip-frame t u l jb kn pl mo on mv ak = record {
   known = every-map (Known t) (Known u) l (λ x. known-job t u x (jb (x .job))) kn;
@@ -49,8 +49,8 @@ trip-list t k l kn n i =
 -- ---- a message that goes: where it counted for a move, one end of the move is dead
 
 pub trip-lost : (t : Table) (x : Message) (l : List Message)
-    → ((j : ℕ) → j < 64 → jobAt t j .state ≡ 1 → trip j (jobAt t j .replica) x ≡ true → 1 ≤ dead t (jobAt t j .holder) + dead t (jobAt t j .thief))
-    → ((j p : ℕ) → jobAt t j .state ≡ 1 → resultFrom j p x ≡ false)
+    → ((j : ℕ) → j < 64 → jobAt t j .state ≡ OPEN → trip j (jobAt t j .replica) x ≡ true → 1 ≤ dead t (jobAt t j .holder) + dead t (jobAt t j .thief))
+    → ((j p : ℕ) → jobAt t j .state ≡ OPEN → resultFrom j p x ≡ false)
     → Trip t (x ∷ l) → Trip t l
 unfolding held
 trip-lost t x l h n i =
@@ -105,18 +105,18 @@ module _ (t u : Table) (x y : Message) (l : List Message)
     (al : (k : ℕ) → nodeAt u k .alive ≡ nodeAt t k .alive)
     (pl : (m j : ℕ) → m < 16 → j < 64 → poolAt u m j ≤ jobAt t j .replica)
     (ky : Known t y)
-    (tr : (j : ℕ) → j < 64 → jobAt t j .state ≡ 1 → trip j (jobAt t j .replica) y ≡ trip j (jobAt t j .replica) x)
-    (kept : (j p : ℕ) → j < 64 → p < 16 → jobAt t j .state ≡ 1 → trip j (jobAt t j .replica) x ≡ false → min 1 (has t j (jobAt t j .replica) p + ind (resultFrom j p x)) ≤ has u j (jobAt t j .replica) p + ind (resultFrom j p y))
-    (own : (j p : ℕ) → j < 64 → p < 16 → jobAt t j .state ≡ 1 → ackFrom j (jobAt t j .replica) p y ≡ true → 1 ≤ has u j (jobAt t j .replica) p)
+    (tr : (j : ℕ) → j < 64 → jobAt t j .state ≡ OPEN → trip j (jobAt t j .replica) y ≡ trip j (jobAt t j .replica) x)
+    (kept : (j p : ℕ) → j < 64 → p < 16 → jobAt t j .state ≡ OPEN → trip j (jobAt t j .replica) x ≡ false → min 1 (has t j (jobAt t j .replica) p + ind (resultFrom j p x)) ≤ has u j (jobAt t j .replica) p + ind (resultFrom j p y))
+    (own : (j p : ℕ) → j < 64 → p < 16 → jobAt t j .state ≡ OPEN → ackFrom j (jobAt t j .replica) p y ≡ true → 1 ≤ has u j (jobAt t j .replica) p)
     (i : Trip t (x ∷ l)) where
-  on′ : (j : ℕ) → j < 64 → jobAt t j .state ≡ 1 → jobAt t j .moving ≡ 0 → 1 ≤ held u (y ∷ l) j (jobAt t j .replica) (jobAt t j .holder)
+  on′ : (j : ℕ) → j < 64 → jobAt t j .state ≡ OPEN → jobAt t j .moving ≡ 0 → 1 ≤ held u (y ∷ l) j (jobAt t j .replica) (jobAt t j .holder)
   unfolding held
   on′ j a b c =
       byBool (trip j (jobAt t j .replica) x)
       (λ e. absurd (omega (arith, ap ind e, i .moves j a b)))
       (λ e. omega (arith, i .on j a b c, kept j (jobAt t j .holder) a (places j a .1) b e))
 
-  acked′ : (j p : ℕ) → j < 64 → p < 16 → jobAt t j .state ≡ 1 → 1 ≤ count (ackFrom j (jobAt t j .replica) p) (y ∷ l) → 1 ≤ held u (y ∷ l) j (jobAt t j .replica) p
+  acked′ : (j p : ℕ) → j < 64 → p < 16 → jobAt t j .state ≡ OPEN → 1 ≤ count (ackFrom j (jobAt t j .replica) p) (y ∷ l) → 1 ≤ held u (y ∷ l) j (jobAt t j .replica) p
   unfolding held
   acked′ j p a b c d =
       let r = jobAt t j .replica in

@@ -13,8 +13,9 @@ use Rattle.table.specs.declared.Job.{Job}
 use Rattle.table.specs.declared.Machine.{Machine}
 use Rattle.table.specs.declared.Message.{Message}
 use Rattle.table.specs.declared.Table.{Table}
-use Rattle.table.specs.Views.{jobAt, nodeAt, poolAt, withJob, enter}
-use Rattle.table.specs.Parts.{opened}
+use Rattle.table.specs.Views.{jobAt, nodeAt, poolAt, withJob}
+use Rattle.table.specs.Pools.{enter}
+use Rattle.table.specs.Parts.{opened, OPEN}
 use Rattle.table.proofs.Views.{Sized, views, sized-job, job-same, job-other, job-pool, pool-job, pool-other-job, pool-other-node}
 use Rattle.lists.proofs.Cases.{byBool, byEq}
 use Rattle.lists.proofs.Count.{count, count-zero, count-none, Every, every-map, every-zip}
@@ -35,10 +36,10 @@ module _ (t u : Table) (i : ℕ) (v : Job) (k l : List Message)
     (rs : (j p : ℕ) → j ≢ i → count (resultFrom j p) l ≡ count (resultFrom j p) k)
     (ak : (j r p : ℕ) → j ≢ i → count (ackFrom j r p) l ≡ count (ackFrom j r p) k)
     (pl : (m : ℕ) → m < 16 → poolAt u m i ≤ v .replica)
-    (mo : v .state ≡ 1 → count (trip i (v .replica)) l ≤ v .moving)
-    (on₀ : v .state ≡ 1 → v .moving ≡ 0 → 1 ≤ held u l i (v .replica) (v .holder))
-    (mv₀ : v .state ≡ 1 → v .moving ≡ 1 → 1 ≤ dead u (v .holder) + dead u (v .thief) + count (trip i (v .replica)) l)
-    (ac₀ : (p : ℕ) → p < 16 → v .state ≡ 1 → 1 ≤ count (ackFrom i (v .replica) p) l → 1 ≤ held u l i (v .replica) p)
+    (mo : v .state ≡ OPEN → count (trip i (v .replica)) l ≤ v .moving)
+    (on₀ : v .state ≡ OPEN → v .moving ≡ 0 → 1 ≤ held u l i (v .replica) (v .holder))
+    (mv₀ : v .state ≡ OPEN → v .moving ≡ 1 → 1 ≤ dead u (v .holder) + dead u (v .thief) + count (trip i (v .replica)) l)
+    (ac₀ : (p : ℕ) → p < 16 → v .state ≡ OPEN → 1 ≤ count (ackFrom i (v .replica) p) l → 1 ≤ held u l i (v .replica) p)
     (g : Trip t k) where
   has-other : (j r p : ℕ) → j < 64 → j ≢ i → has u j r p ≡ has t j r p
   has-other j r p h e = has-same t u j r p (nd p) (po p j h e)
@@ -92,7 +93,7 @@ module _ (t u : Table) (i : ℕ) (l : List Message) (st : jobAt u i .state ≡ j
 
 module _ (t u : Table) (i : ℕ) (l : List Message) (re : jobAt t i .replica ≤ jobAt u i .replica) (kn : Every (Known t) l) where
   -- it is not open
-  pub known-shut : (jobAt u i .state ≡ 1 → ⊥) → Every (λ x. x .job ≡ i → Known u x) l
+  pub known-shut : (jobAt u i .state ≡ OPEN → ⊥) → Every (λ x. x .job ≡ i → Known u x) l
   known-shut shut =
       every-map (Known t) (λ x. x .job ≡ i → Known u x) l
       (λ x k e. record { cap = let c : x .replica ≤ jobAt t i .replica = rw e at (k .cap) in rw e (omega arith); old = rw e (λ a b. absurd (shut b)); ends = rw e (λ a b. absurd (shut a)) })

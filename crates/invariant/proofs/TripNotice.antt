@@ -14,7 +14,8 @@ use Rattle.table.specs.declared.Message.{Message}
 use Rattle.table.specs.declared.Table.{Table}
 use Rattle.table.specs.Views.{jobAt, nodeAt, flight, withJob, withNode}
 use Rattle.table.specs.Messages.{sift, notFrom}
-use Rattle.table.specs.Parts.{opened, waiting, returned}
+use Rattle.table.specs.Parts.{opened, waiting}
+use Rattle.table.specs.Pools.{returned}
 use Rattle.table.proofs.Views.{Sized, views, sized-job, job-other, pool-node, alive-node}
 use Rattle.notice.specs.Notice.{informed, unwaited, reclaimed, quieted, lost, reissueOne, reissue, noticed}
 use Rattle.notice.proofs.Cases.{Noticing}

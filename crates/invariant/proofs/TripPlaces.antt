@@ -12,7 +12,7 @@ use Rattle.table.specs.declared.Job.{Job}
 use Rattle.table.specs.declared.Message.{Message}
 use Rattle.table.specs.declared.Table.{Table}
 use Rattle.table.specs.Views.{jobAt, toldAt, flight, withJob}
-use Rattle.table.specs.Parts.{moved, placed, priced, message, REQ, AUTH, DENIED, OBSOLETE, ACK, RESULT}
+use Rattle.table.specs.Parts.{moved, placed, priced, message, REQ, AUTH, DENIED, OBSOLETE, ACK, RESULT, OPEN, PRICED}
 use Rattle.table.proofs.Views.{job-same, job-other, node-job, pool-job, flight-job}
 use Rattle.root_handlers.specs.RootHandlers.{reply, onReq, onAck, onResult}
 use Rattle.lists.proofs.Cases.{byBool, byEq, byAnd}
@@ -56,7 +56,7 @@ module _ (s : Table) (x : Message) (h : Hand s x) (g : Trip s (x ∷ flight s)) 
   same v = job-same s (h .sized) i v (h .message .job)
 
   -- ---- ACK of an open job's current copy: the job is on its sender
-  arrives : x .kind ≡ ACK → v₀ .state ≡ 1 → v₀ .replica ≡ x .replica → Trips (withJob s i (placed v₀ (x .from)))
+  arrives : x .kind ≡ ACK → v₀ .state ≡ OPEN → v₀ .replica ≡ x .replica → Trips (withJob s i (placed v₀ (x .from)))
   unfolding held placed
   arrives k7 op cu =
       let l = flight s in
@@ -85,13 +85,13 @@ module _ (s : Table) (x : Message) (h : Hand s x) (g : Trip s (x ∷ flight s)) 
   pub trip-ack : x .kind ≡ ACK → Trips (onAck s x)
   unfolding onAck
   trip-ack k7 =
-      byAnd (eqb (v₀ .state) 1) (eqb (v₀ .replica) (x .replica))
+      byAnd (eqb (v₀ .state) OPEN) (eqb (v₀ .replica) (x .replica))
       (λ a b c. rw (c, onAck) (arrives k7 (eqb-true _ _ a) (eqb-true _ _ b)))
       (λ c. rw (c, onAck) (trip-lost s x (flight s)
       (λ j a o e.
       let es = trip-eqs j (jobAt s j .replica) x e in
       let job : jobAt s (x .job) ≡ jobAt s j = ap (jobAt s) (es .1) in
-      let z : eqb (v₀ .state) 1 && eqb (v₀ .replica) (x .replica) ≡ true = rw (eq-eqb (v₀ .state) 1 (rw job o), eq-eqb (v₀ .replica) (x .replica) (rw job (sym (es .2)))) in
+      let z : eqb (v₀ .state) OPEN && eqb (v₀ .replica) (x .replica) ≡ true = rw (eq-eqb (v₀ .state) OPEN (rw job o), eq-eqb (v₀ .replica) (x .replica) (rw job (sym (es .2)))) in
       absurd (true≢false (sym z ∙ c)))
       (λ j p o. result-other ACK j p x k7 refl) g))
 
@@ -122,15 +122,15 @@ module _ (s : Table) (x : Message) (h : Hand s x) (g : Trip s (x ∷ flight s)) 
   pub trip-result : x .kind ≡ RESULT → Trips (onResult s x)
   unfolding onResult
   trip-result k9 =
-      byBool (eqb (v₀ .state) 1)
+      byBool (eqb (v₀ .state) OPEN)
       (λ a. rw (a, onResult) (prices k9))
       (λ a. rw (a, onResult) (trip-lost s x (flight s)
       (λ j b o e. absurd (true≢false (sym e ∙ trip-other RESULT j (jobAt s j .replica) x k9 (unfold isTrip in refl))))
-      (λ j p o. result-not j p x (λ e. eqb-false (v₀ .state) 1 a (rw e o)))
+      (λ j p o. result-not j p x (λ e. eqb-false (v₀ .state) OPEN a (rw e o)))
       g))
 
   -- ---- REQ
-  known-obsolete : eqb (v₀ .state) 2 || not (eqb (v₀ .replica) (x .replica)) ≡ true → Known s (message OBSOLETE 0 (x .from) (x .job) (x .replica) (x .thief))
+  known-obsolete : eqb (v₀ .state) PRICED || not (eqb (v₀ .replica) (x .replica)) ≡ true → Known s (message OBSOLETE 0 (x .from) (x .job) (x .replica) (x .thief))
   unfolding message
   known-obsolete a = record {
     cap = g .known .0 .cap;
@@ -173,9 +173,9 @@ module _ (s : Table) (x : Message) (h : Hand s x) (g : Trip s (x ∷ flight s)) 
       let ey : y .kind ≡ AUTH = unfold message in refl in
       let jy : y .job ≡ i = unfold message in refl in
       let my : trip i r y ≡ true = trip-sent (x .from) i (x .replica) (x .thief) r (sym cu) in
-      let none : v₀ .state ≡ 1 → count (trip i r) l ≡ 0 = λ o. omega (arith, g .moves i (w .job) o) in
+      let none : v₀ .state ≡ OPEN → count (trip i r) l ≡ 0 = λ o. omega (arith, g .moves i (w .job) o) in
       let known : Every (λ z. z .job ≡ i → Known u z) l =
-      byEq (v₀ .state) 1
+      byEq (v₀ .state) OPEN
       (λ o. known-still s u i l (rw (same v)) (rw (same v)) (g .known .1) (rw (same v) (none o)))
       (λ o. known-shut s u i l (rw (same v) (omega arith)) (g .known .1) (rw (same v) o)) in
       let t : Trip u (y ∷ l) =
@@ -195,11 +195,11 @@ module _ (s : Table) (x : Message) (h : Hand s x) (g : Trip s (x ∷ flight s)) 
   pub trip-req : x .kind ≡ REQ → Trips (onReq s x)
   unfolding onReq
   trip-req k2 =
-      byBool (eqb (v₀ .state) 2 || not (eqb (v₀ .replica) (x .replica)))
+      byBool (eqb (v₀ .state) PRICED || not (eqb (v₀ .replica) (x .replica)))
       (λ a. rw (a, onReq) (answers OBSOLETE k2 (unfold isTrip in refl) refl refl refl (known-obsolete a)))
       (λ a. byBool (not (eqb (toldAt s 0 (x .thief)) 0) || not (eqb (v₀ .moving) 0))
       (λ b. rw (a, b, onReq) (answers DENIED k2 (unfold isTrip in refl) refl refl refl
       (known-plain s (message DENIED 0 (x .from) (x .job) (x .replica) (x .thief)) 4 (unfold message in refl) (unfold isTrip in refl) refl (unfold message in g .known .0 .cap))))
       (λ b. rw (a, b, onReq) (moves k2
       (eqb-true _ _ (not-false _ (or-right (not (eqb (toldAt s 0 (x .thief)) 0)) _ b)))
-      (eqb-true _ _ (not-false _ (or-right (eqb (v₀ .state) 2) _ a))))))
+      (eqb-true _ _ (not-false _ (or-right (eqb (v₀ .state) PRICED) _ a))))))

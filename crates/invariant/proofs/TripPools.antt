@@ -9,8 +9,8 @@ use lib.Dec.{eqb, leb}
 use borrow.Author.Tests.{eqb-true, leb-false, not-false}
 use Rattle.table.specs.declared.Message.{Message}
 use Rattle.table.specs.declared.Table.{Table}
-use Rattle.table.specs.Views.{jobAt, nodeAt, poolAt, flight, withNode, withPool, enter}
-use Rattle.table.specs.Messages.{lowest}
+use Rattle.table.specs.Views.{jobAt, nodeAt, poolAt, flight, withNode, withPool}
+use Rattle.table.specs.Pools.{enter, lowest}
 use Rattle.table.specs.Parts.{reserve, waiting, message, FISH, REQ, SCHEDULE, ACK, NOWORK}
 use Rattle.table.proofs.Views.{views, pool-node, flight-node}
 use Rattle.victim_handlers.specs.VictimHandlers.{noWork, grant, onFish}

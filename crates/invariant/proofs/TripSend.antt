@@ -11,7 +11,7 @@ use Rattle.table.specs.declared.Message.{Message}
 use Rattle.table.specs.declared.Table.{Table}
 use Rattle.table.specs.Views.{noMessage, jobAt, nodeAt, poolAt, messageAt, flight, withMessages}
 use Rattle.table.specs.Messages.{pull, send, RoomFor}
-use Rattle.table.specs.Parts.{ACK, RESULT}
+use Rattle.table.specs.Parts.{ACK, RESULT, OPEN}
 use Rattle.table.proofs.Views.{Sized, views}
 use Rattle.slots.specs.Slots.{toRoot}
 use Rattle.lists.specs.Scan.{without}
@@ -58,7 +58,7 @@ pub trip-swap : (t u : Table) (x y : Message) (l : List Message) (k c : ℕ) →
     → ((k : ℕ) → nodeAt u k .alive ≡ nodeAt t k .alive)
     → ((m j : ℕ) → m < 16 → j < 64 → poolAt u m j ≤ jobAt t j .replica)
     → Known t y
-    → ((j p : ℕ) → j < 64 → p < 16 → jobAt t j .state ≡ 1 → min 1 (has t j (jobAt t j .replica) p) ≤ has u j (jobAt t j .replica) p + ind (resultFrom j p y))
+    → ((j p : ℕ) → j < 64 → p < 16 → jobAt t j .state ≡ OPEN → min 1 (has t j (jobAt t j .replica) p) ≤ has u j (jobAt t j .replica) p + ind (resultFrom j p y))
     → Trip t (x ∷ l) → Trip u (y ∷ l)
 trip-swap t u x y l k c ex ey tk tc rk ac places jb al pl ky kept =
     trip-step t u x y l places jb al pl ky
@@ -72,7 +72,7 @@ pub trip-table : (t u : Table) (l : List Message) → Places t
     → ((j : ℕ) → jobAt u j ≡ jobAt t j)
     → ((k : ℕ) → nodeAt u k .alive ≡ nodeAt t k .alive)
     → ((m j : ℕ) → m < 16 → j < 64 → poolAt u m j ≤ jobAt t j .replica)
-    → ((j p : ℕ) → j < 64 → p < 16 → jobAt t j .state ≡ 1 → min 1 (has t j (jobAt t j .replica) p) ≤ has u j (jobAt t j .replica) p)
+    → ((j p : ℕ) → j < 64 → p < 16 → jobAt t j .state ≡ OPEN → min 1 (has t j (jobAt t j .replica) p) ≤ has u j (jobAt t j .replica) p)
     → Trip t l → Trip u l
 trip-table t u l places jb al pl kept i =
     let no : isTrip 0 ≡ false = unfold isTrip in refl in

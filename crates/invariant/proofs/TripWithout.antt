@@ -13,7 +13,7 @@ use Rattle.table.specs.declared.Machine.{Machine}
 use Rattle.table.specs.declared.Message.{Message}
 use Rattle.table.specs.declared.Table.{Table}
 use Rattle.table.specs.Views.{jobAt, nodeAt, poolAt, flight}
-use Rattle.table.specs.Parts.{RESULT}
+use Rattle.table.specs.Parts.{RESULT, OPEN}
 use Rattle.preservation.proofs.Facts.{MessageFacts}
 use Rattle.lists.specs.Scan.{filter}
 use Rattle.lists.proofs.Cases.{byEq, and-left, and-right}
@@ -66,7 +66,7 @@ module _ (t u : Table) (d : ℕ) (q : Message → Bool) (w : Whole t) (nz : d �
       (λ e. let s : has u j r p ≡ has t j r p = has-same t u j r p (nd p e) (po p j a e) in omega (arith, s, results j p e))
 
   -- the messages of a move between two others stay
-  trips : (j : ℕ) → jobAt t j .state ≡ 1 → jobAt t j .holder ≢ d → jobAt t j .thief ≢ d → count (trip j (jobAt t j .replica)) l ≡ count (trip j (jobAt t j .replica)) (flight t)
+  trips : (j : ℕ) → jobAt t j .state ≡ OPEN → jobAt t j .holder ≢ d → jobAt t j .thief ≢ d → count (trip j (jobAt t j .replica)) l ≡ count (trip j (jobAt t j .replica)) (flight t)
   trips j o nh nt =
       counts (trip j (jobAt t j .replica))
       (λ x k f s e.

@@ -3,10 +3,11 @@ use mathlib.Core.Path.{_≡_}
 use mathlib.Core.Logic.{_≢_}
 use borrow.Author.Tests.{ne-eqb}
 use Rattle.table.specs.declared.Message.{Message}
+use Rattle.table.specs.Parts.{OPEN}
 use Rattle.table.specs.declared.Table.{Table}
 use Rattle.table.specs.Views.{jobAt}
 use Rattle.root_handlers.specs.RootHandlers.{onResult}
 
-pub result-untouched : (t : Table) (m : Message) → jobAt t (m .job) .state ≢ 1 → onResult t m ≡ t
+pub result-untouched : (t : Table) (m : Message) → jobAt t (m .job) .state ≢ OPEN → onResult t m ≡ t
 unfolding onResult
-result-untouched t m n = rw (ne-eqb (jobAt t (m .job) .state) 1 n, onResult)
+result-untouched t m n = rw (ne-eqb (jobAt t (m .job) .state) OPEN n, onResult)

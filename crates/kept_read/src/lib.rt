@@ -134,7 +134,7 @@ fn jobs(s: &[u8]) -> [Job; 64]
     ensures { λ r. ⌜ r ≡ jobsFrom (now (s .entry)) ⌝ }
 {
     let mut out = [Job {
-        state: 0,
+        state: table::NOT_ADMITTED,
         replica: 0,
         moving: 0,
         holder: 0,

@@ -8,6 +8,7 @@ use Rattle.lists.proofs.Cases.{byBool}
 use Rattle.text.specs.Text.{ascii, decimal, hex16}
 use Rattle.text.proofs.Digits.{two-digits, five-digits, length-hex}
 use Rattle.table.specs.declared.Job.{Job}
+use Rattle.table.specs.Parts.{NOT-ADMITTED, OPEN}
 use Rattle.lines.specs.Lines.{numbered, bookRefused, eventRefused, notAdmitted, openReplica, priced, entryLine}
 
 pub numbered-most : (w : List ℕ) (n : ℕ) → n < 100 → length (numbered w n) ≤ length w + 3
@@ -45,6 +46,6 @@ module _ (identifier : List ℕ) where
   pub entry-most : (v : Job) → v .replica < 100 → length (entryLine identifier v) ≤ length identifier + 36
   unfolding entryLine
   entry-most v h =
-      byBool (eqb (v .state) 0) (λ e. rw (e, entryLine) not-admitted-most)
-      (λ e. byBool (eqb (v .state) 1) (λ f. rw (e, f, entryLine) (open-most (v .replica) h))
+      byBool (eqb (v .state) NOT-ADMITTED) (λ e. rw (e, entryLine) not-admitted-most)
+      (λ e. byBool (eqb (v .state) OPEN) (λ f. rw (e, f, entryLine) (open-most (v .replica) h))
       (λ f. rw (e, f, entryLine) (priced-most (v .price) (v .replica) h)))

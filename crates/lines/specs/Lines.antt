@@ -5,6 +5,7 @@ use mathlib.Core.List.{List, _++_}
 use lib.Dec.{eqb}
 use Rattle.text.specs.Text.{ascii, decimal, hex16}
 use Rattle.table.specs.declared.Job.{Job}
+use Rattle.table.specs.Parts.{NOT-ADMITTED, OPEN}
 
 -- the end of a line: words and a number
 unfoldable pub numbered : List ℕ → ℕ → List ℕ
@@ -33,6 +34,6 @@ priced identifier price replica = identifier ++ ascii " priced " ++ hex16 price 
 -- "Then each entry prints a line", by the state of its job
 unfoldable pub entryLine : List ℕ → Job → List ℕ
 entryLine identifier v =
-    cond (eqb (v .state) 0) (notAdmitted identifier)
-    (cond (eqb (v .state) 1) (openReplica identifier (v .replica))
+    cond (eqb (v .state) NOT-ADMITTED) (notAdmitted identifier)
+    (cond (eqb (v .state) OPEN) (openReplica identifier (v .replica))
     (priced identifier (v .price) (v .replica)))

@@ -73,10 +73,10 @@ pub fn put_entry(out: &mut [u8], at: usize, identifier: &[u8], v: Job) -> usize
     requires { ⌜ v .replica < 100 ⌝ }
     ensures { λ r. ⌜ Written (now (out .entry)) at (entryLine (now (identifier .entry)) v) (now (out .exit)) r ⌝ }
 {
-    if v.state == 0 {
+    if v.state == table::NOT_ADMITTED {
         return put_not_admitted(out, at, identifier);
     }
-    if v.state == 1 {
+    if v.state == table::OPEN {
         return put_open(out, at, identifier, v.replica as u64);
     }
     put_priced(out, at, identifier, v.price, v.replica as u64)

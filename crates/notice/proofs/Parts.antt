@@ -8,9 +8,10 @@ use Rattle.lists.proofs.Cases.{cond-elim}
 use Rattle.table.specs.declared.Job.{Job}
 use Rattle.table.specs.declared.Machine.{Machine}
 use Rattle.table.specs.declared.Table.{Table}
-use Rattle.table.specs.Views.{jobAt, nodeAt, withJob, withNode, enter}
+use Rattle.table.specs.Views.{jobAt, nodeAt, withJob, withNode}
+use Rattle.table.specs.Pools.{enter, returned}
 use Rattle.table.specs.Messages.{sift}
-use Rattle.table.specs.Parts.{opened, waiting, returned}
+use Rattle.table.specs.Parts.{opened, waiting}
 use Rattle.table.proofs.Views.{views}
 use Rattle.notice.specs.Notice.{informed, unwaited, reclaimed, quieted, lost, reissueOne}
 

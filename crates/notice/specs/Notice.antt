@@ -6,9 +6,10 @@ use Rattle.lists.specs.Scan.{upTo}
 use Rattle.table.specs.declared.Job.{Job}
 use Rattle.table.specs.declared.Table.{Table}
 use Rattle.table.specs.declared.Answer.{Answer}
-use Rattle.table.specs.Views.{jobAt, nodeAt, toldAt, withJob, withNode, withTold, refuse, enter}
+use Rattle.table.specs.Views.{jobAt, nodeAt, toldAt, withJob, withNode, withTold, refuse}
+use Rattle.table.specs.Pools.{enter, returned}
 use Rattle.table.specs.Messages.{sift, notFrom}
-use Rattle.table.specs.Parts.{opened, waiting, lives, returned, accept}
+use Rattle.table.specs.Parts.{opened, waiting, lives, accept, OPEN}
 
 -- "a is told that b is dead. Undelivered messages from b to a are dropped."
 unfoldable pub informed : Table → ℕ → ℕ → Table
@@ -29,7 +30,7 @@ quieted t a b = unwaited (reclaimed (informed t a b) a b) a b
 
 -- an "open job on b, or moving from or to b"
 abbrev pub lost : Job → ℕ → Bool
-lost v b = eqb (v .state) 1 && (eqb (v .holder) b || eqb (v .moving) 1 && eqb (v .thief) b)
+lost v b = eqb (v .state) OPEN && (eqb (v .holder) b || eqb (v .moving) 1 && eqb (v .thief) b)
 
 -- such a job "gets the next replica number, is on 0, and enters the root's pool"; v is job j as it was before
 unfoldable pub reissueOne : Job → ℕ → ℕ → Table → Table

@@ -2,7 +2,7 @@
 ghost use mathlib.Core.Path.{_≡_};
 ghost use Prim.Native.Nat.{ℕ, _<_, _≤_};
 ghost use Rattle.table.specs.Views.{jobAt, nodeAt};
-ghost use Rattle.messages.specs.Needs.{Ready};
+ghost use Rattle.table.specs.Needs.{Ready};
 ghost use Rattle.notice.specs.Notice.{informed, unwaited, reclaimed, quieted, lost, reissue, noticed, noticeOf};
 use table::Job;
 use table::Table;
@@ -61,7 +61,7 @@ fn quieted(t: Table, a: u8, b: u8) -> Table
 fn lost(v: Job, b: u8) -> bool
     ensures { λ r. ⌜ r ≡ lost v b ⌝ }
 {
-    (v.state == 1) & ((v.holder == b) | (v.moving == 1) & (v.thief == b))
+    (v.state == table::OPEN) & ((v.holder == b) | (v.moving == 1) & (v.thief == b))
 }
 
 // Each such job gets the next replica number, is on 0, and enters the root's pool.
@@ -109,7 +109,7 @@ pub fn notice_number(t: Table, a: u8, b: u8) -> u8
     if d.alive == 1 {
         return 21;
     }
-    let told = pools::told_at(t, a as usize, b as usize);
+    let told = table::told_at(t, a as usize, b as usize);
     if told != 0 {
         return 22;
     }

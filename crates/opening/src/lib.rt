@@ -53,7 +53,7 @@ fn blank(machines: u8, entries: u8, bonds: [Bond; 64], nodes: [Machine; 16]) -> 
     ensures { λ r. ⌜ r ≡ blank machines entries bonds nodes ⌝ }
 {
     let job = Job {
-        state: 0,
+        state: table::NOT_ADMITTED,
         replica: 0,
         moving: 0,
         holder: 0,

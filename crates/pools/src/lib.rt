@@ -1,10 +1,10 @@
-// A machine's pool: a copy enters, the lowest job, the reserved copy returns, the pool is cleared; a job opened on the root; what a machine was told.
+// A machine's pool: a copy enters, the lowest job, the reserved copy returns, the pool is cleared; a job opened on the root.
 // Each public function equals the definition of its name in the crate `table`; `open_on_root` equals its `enter` after `withJob`.
 ghost use mathlib.Core.Path.{_≡_};
 ghost use Prim.Native.Nat.{_<_, max};
-ghost use Rattle.table.specs.Views.{nodeAt, toldAt, withJob, enter};
-ghost use Rattle.table.specs.Messages.{lowest, wipe};
-ghost use Rattle.table.specs.Parts.{opened, returned};
+ghost use Rattle.table.specs.Views.{nodeAt, withJob};
+ghost use Rattle.table.specs.Pools.{enter, lowest, wipe, returned};
+ghost use Rattle.table.specs.Parts.{opened};
 use table::Job;
 use table::Table;
 
@@ -37,7 +37,7 @@ pub fn open_on_root(t: Table, j: usize, r: u8) -> Table
 {
     let mut u = t;
     u.jobs[j] = Job {
-        state: 1,
+        state: table::OPEN,
         replica: r,
         moving: 0,
         holder: 0,
@@ -93,13 +93,4 @@ pub fn returned(t: Table, m: usize) -> Table
     n.reserved_thief = 0;
     u.nodes[m] = n;
     u
-}
-
-// 1 where machine m has been told that machine d is dead.
-pub fn told_at(t: Table, m: usize, d: usize) -> u8
-    requires { ⌜ (m < 16) × (d < 16) ⌝ }
-    ensures { λ r. ⌜ r ≡ toldAt t m d ⌝ }
-{
-    let told = t.told;
-    told[m * 16 + d]
 }

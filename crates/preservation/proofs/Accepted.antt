@@ -10,9 +10,10 @@ use Rattle.lists.proofs.Cases.{and-left, and-right}
 use Rattle.lists.proofs.Count.{every-at}
 use Rattle.pricer.specs.Price.{priceBits}
 use Rattle.table.specs.declared.Table.{Table}
-use Rattle.table.specs.Views.{noMessage, bondAt, nodeAt, poolAt, messageAt, flight, withJob, withNode, withPool, enter}
+use Rattle.table.specs.Views.{noMessage, bondAt, nodeAt, poolAt, messageAt, flight, withJob, withNode, withPool}
+use Rattle.table.specs.Pools.{enter}
 use Rattle.table.specs.Messages.{pull}
-use Rattle.table.specs.Parts.{opened, running, waiting, lives, message, result}
+use Rattle.table.specs.Parts.{opened, running, waiting, lives, message, result, FISH}
 use Rattle.table.proofs.Views.{Sized, views, sized-job, sized-node, sized-pool, length-flight, room-node}
 use Rattle.table.proofs.Messages.{message-flight, sized-pull}
 use Rattle.elements.specs.Elements.{copyOk}
@@ -77,7 +78,7 @@ module _ (t : Table) (v : Valid t) where
       let M = t .machines in
       let n = waiting (nodeAt t a) (b + 1) in
       let uo = ok-waiting t s o a (b + 1) (omega (arith, d .machine, machines-most t (o .sizes))) (d .alive) (omega (arith, d .victim)) in
-      valid-send (withNode t a n) (sized-node t a n s) uo (message 1 a b 0 0 0) (room-node t a n (unfold waiting in refl) b (d .room))
+      valid-send (withNode t a n) (sized-node t a n s) uo (message FISH a b 0 0 0) (room-node t a n (unfold waiting in refl) b (d .room))
       (simp wide (rw (lt-ltb a M (d .machine), lt-ltb b M (d .victim))))
 
   -- ---- Deliver

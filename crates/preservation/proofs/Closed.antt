@@ -10,9 +10,10 @@ use Rattle.table.specs.declared.Job.{Job}
 use Rattle.table.specs.declared.Machine.{Machine}
 use Rattle.table.specs.declared.Message.{Message}
 use Rattle.table.specs.declared.Table.{Table}
-use Rattle.table.specs.Views.{noMachine, jobAt, nodeAt, poolAt, toldAt, messageAt, withJob, withNode, withPool, withTold, enter}
-use Rattle.table.specs.Messages.{pull, sift, send, lowest, notTo, notFrom}
-use Rattle.table.specs.Parts.{reserve, release, running, waiting, returned}
+use Rattle.table.specs.Views.{noMachine, jobAt, nodeAt, poolAt, toldAt, messageAt, withJob, withNode, withPool, withTold}
+use Rattle.table.specs.Pools.{enter, lowest, returned}
+use Rattle.table.specs.Messages.{pull, sift, send, notTo, notFrom}
+use Rattle.table.specs.Parts.{reserve, release, running, waiting, OPEN, PRICED}
 use Rattle.table.proofs.Views.{views}
 use Rattle.table.proofs.Wipe.{keeps-wipe}
 use Rattle.victim_handlers.specs.VictimHandlers.{noWork, grant, onFish, matches, onAuth, onDenied, onObsolete}
@@ -109,17 +110,17 @@ module _ (P : ℕ → Table → Type 0) (c : Handling P) where
     req : P 0 (onReq t x)
     unfolding onReq reply
     req =
-        cond-elim (P 0) (eqb (jobAt t (x .job) .state) 2 || not (eqb (jobAt t (x .job) .replica) (x .replica))) _ _ (c .local .send t _ p)
+        cond-elim (P 0) (eqb (jobAt t (x .job) .state) PRICED || not (eqb (jobAt t (x .job) .replica) (x .replica))) _ _ (c .local .send t _ p)
         (cond-elim (P 0) (not (eqb (toldAt t 0 (x .thief)) 0) || not (eqb (jobAt t (x .job) .moving) 0)) _ _ (c .local .send t _ p)
         (c .local .send _ _ (c .job 1 t _ _ p)))
 
     ack : P 0 (onAck t x)
     unfolding onAck
-    ack = cond-elim (P 0) (eqb (jobAt t (x .job) .state) 1 && eqb (jobAt t (x .job) .replica) (x .replica)) _ t (c .job 0 t _ _ rest) rest
+    ack = cond-elim (P 0) (eqb (jobAt t (x .job) .state) OPEN && eqb (jobAt t (x .job) .replica) (x .replica)) _ t (c .job 0 t _ _ rest) rest
 
     result : P 0 (onResult t x)
     unfolding onResult
-    result = cond-elim (P 0) (eqb (jobAt t (x .job) .state) 1) _ t (c .job 0 t _ _ rest) rest
+    result = cond-elim (P 0) (eqb (jobAt t (x .job) .state) OPEN) _ t (c .job 0 t _ _ rest) rest
 
     pub closed-handle : P 0 (handle t x)
     closed-handle =

@@ -13,7 +13,8 @@ use Rattle.lists.proofs.Count.{every-map, every-filter}
 use Rattle.table.specs.declared.Table.{Table}
 use Rattle.table.specs.declared.Message.{Message}
 use Rattle.table.specs.Views.{noMachine, nodeAt, toldAt, flight, withNode}
-use Rattle.table.specs.Messages.{notTo, wipe}
+use Rattle.table.specs.Messages.{notTo}
+use Rattle.table.specs.Pools.{wipe}
 use Rattle.table.proofs.Views.{Sized, sized-node}
 use Rattle.table.proofs.Messages.{padded-sift}
 use Rattle.table.proofs.Wipe.{sized-wipe}

@@ -15,7 +15,7 @@ use Rattle.table.specs.declared.Job.{Job}
 use Rattle.table.specs.declared.Machine.{Machine}
 use Rattle.table.specs.declared.Message.{Message}
 use Rattle.table.specs.Views.{noJob, noMachine}
-use Rattle.table.specs.Parts.{FISH, RESULT}
+use Rattle.table.specs.Parts.{FISH, RESULT, NOT-ADMITTED, OPEN, PRICED}
 use Rattle.elements.specs.Elements.{copyOk, admittedOk, placeOk, jobOk, reservedOk, runningOk, nodeOk, toldOk, cellOk}
 use Rattle.slots.specs.Slots.{kindOk, endsOk, carriesOk, thiefOk, withCopy, withThief, toRoot, messageOk}
 use Rattle.preservation.proofs.Facts.{copy-is, job-is, node-is}
@@ -38,16 +38,16 @@ module _ (M E B j : ℕ) (v : Job) where
       (λ e. or-left (eqb (v .moving) 0 && eqb (v .thief) 0) _ (and-both (eqb (v .moving) 0) (eqb (v .thief) 0) (eq-eqb _ _ e) (eq-eqb _ _ (g e))))
       (λ e. or-right (eqb (v .moving) 0 && eqb (v .thief) 0) _ (and-both (eqb (v .moving) 1) (ltb (v .thief) M) (eq-eqb (v .moving) 1 (omega arith)) (lt-ltb _ _ (f e)))))
 
-  admitted : v .state ≢ 0 → v .state ≤ 2 → (v .state ≢ 2 → v .price ≡ 0) → admittedOk v ≡ true
+  admitted : v .state ≢ NOT-ADMITTED → v .state ≤ 2 → (v .state ≢ PRICED → v .price ≡ 0) → admittedOk v ≡ true
   admitted n l f =
-      byEq (v .state) 2
-      (λ e. or-right (eqb (v .state) 1 && eqb (v .price) 0) (eqb (v .state) 2) (eq-eqb _ _ e))
-      (λ e. or-left (eqb (v .state) 1 && eqb (v .price) 0) (eqb (v .state) 2) (and-both (eqb (v .state) 1) (eqb (v .price) 0) (eq-eqb (v .state) 1 (omega arith)) (eq-eqb _ _ (f e))))
+      byEq (v .state) PRICED
+      (λ e. or-right (eqb (v .state) OPEN && eqb (v .price) 0) (eqb (v .state) PRICED) (eq-eqb _ _ e))
+      (λ e. or-left (eqb (v .state) OPEN && eqb (v .price) 0) (eqb (v .state) PRICED) (and-both (eqb (v .state) OPEN) (eqb (v .price) 0) (eq-eqb (v .state) OPEN (omega arith)) (eq-eqb _ _ (f e))))
 
-  pub job-passes : v .state ≤ 2 → v .moving ≤ 1 → (v .state ≢ 0 → v .holder < M) → (v .moving ≢ 0 → v .thief < M) → (v .state ≢ 0 → 1 ≤ v .replica)
-      → (E ≤ j → v .state ≡ 0) → (v .state ≡ 0 → v ≡ noJob) → (v .state ≢ 2 → v .price ≡ 0) → (v .moving ≡ 0 → v .thief ≡ 0) → v .replica ≤ B → jobOk M E B j v ≡ true
+  pub job-passes : v .state ≤ 2 → v .moving ≤ 1 → (v .state ≢ NOT-ADMITTED → v .holder < M) → (v .moving ≢ 0 → v .thief < M) → (v .state ≢ NOT-ADMITTED → 1 ≤ v .replica)
+      → (E ≤ j → v .state ≡ NOT-ADMITTED) → (v .state ≡ NOT-ADMITTED → v ≡ noJob) → (v .state ≢ PRICED → v .price ≡ 0) → (v .moving ≡ 0 → v .thief ≡ 0) → v .replica ≤ B → jobOk M E B j v ≡ true
   job-passes st mo ho th re en un pr sl bo =
-      byEq (v .state) 0
+      byEq (v .state) NOT-ADMITTED
       (λ e. let q = un e in simp q)
       (λ e. job-is M E B j v (admitted e st pr) (copy-is E B j (v .replica) (before j E (λ l. e (en l))) (re e) bo) (place-passes (ho e) mo th sl))
 

@@ -17,8 +17,8 @@ use Rattle.table.specs.declared.Job.{Job}
 use Rattle.table.specs.declared.Machine.{Machine}
 use Rattle.table.specs.declared.Message.{Message}
 use Rattle.table.specs.Views.{noJob, noMachine, jobAt, nodeAt, poolAt, toldAt, flight}
-use Rattle.table.specs.Messages.{lowest}
-use Rattle.table.specs.Parts.{opened, moved, placed, priced, reserve, release, running, waiting, FISH, RESULT}
+use Rattle.table.specs.Pools.{lowest}
+use Rattle.table.specs.Parts.{opened, moved, placed, priced, reserve, release, running, waiting, FISH, RESULT, NOT-ADMITTED, PRICED}
 use Rattle.elements.specs.Elements.{copyOk, emptyJob, admittedOk, placeOk, jobOk, emptyNode, reservedOk, runningOk, nodeOk, toldOk, cellOk}
 use Rattle.slots.specs.Slots.{kindOk, endsOk, carriesOk, thiefOk, withCopy, withThief, toRoot, messageOk}
 use Rattle.validity.specs.Validity.{bound}
@@ -137,8 +137,8 @@ module _ (M E B j : ℕ) (v : Job) where
       (λ e. e)
 
   -- so is one that is open or priced
-  pub state-job : v .state ≢ 0 → emptyJob v ≡ false
-  state-job h = rw (ne-eqb (v .state) 0 h)
+  pub state-job : v .state ≢ NOT-ADMITTED → emptyJob v ≡ false
+  state-job h = rw (ne-eqb (v .state) NOT-ADMITTED h)
 
   module _ (g : jobOk M E B j v ≡ true) (n : emptyJob v ≡ false) where
     whole : Holds (admittedOk v) (copyOk E B j (v .replica) ∷ placeOk M v ∷ [])
@@ -305,11 +305,11 @@ pub record JobFacts (t : Table) (j : ℕ) (v : Job) : Type 0 where
   -- where it is not moving there is no thief
   pub still : v .moving ≡ 0 → v .thief ≡ 0
   -- open or priced
-  pub some : v .state ≢ 0 → 1 ≤ v .replica
-  pub entry : v .state ≢ 0 → j < t .entries
+  pub some : v .state ≢ NOT-ADMITTED → 1 ≤ v .replica
+  pub entry : v .state ≢ NOT-ADMITTED → j < t .entries
   -- not admitted
-  pub none : v .state ≡ 0 → v ≡ noJob
-  pub unpriced : v .state ≢ 2 → v .price ≡ 0
+  pub none : v .state ≡ NOT-ADMITTED → v ≡ noJob
+  pub unpriced : v .state ≢ PRICED → v .price ≡ 0
 
 -- n is machine m
 pub record MachineFacts (t : Table) (m : ℕ) (n : Machine) : Type 0 where

@@ -11,9 +11,9 @@ use Rattle.lists.proofs.Cases.{byBool, and-left}
 use Rattle.table.specs.declared.Table.{Table}
 use Rattle.table.specs.declared.Machine.{Machine}
 use Rattle.table.specs.declared.Message.{Message}
-use Rattle.table.specs.Views.{jobAt, nodeAt, poolAt, toldAt, withJob, withNode, withPool, enter}
-use Rattle.table.specs.Messages.{lowest}
-use Rattle.table.specs.Parts.{moved, placed, priced, reserve, release, waiting, copyIs, reserves, returned, message, REQ, AUTH, DENIED, OBSOLETE, SCHEDULE, ACK, RESULT}
+use Rattle.table.specs.Views.{jobAt, nodeAt, poolAt, toldAt, withJob, withNode, withPool}
+use Rattle.table.specs.Pools.{enter, lowest, returned}
+use Rattle.table.specs.Parts.{moved, placed, priced, reserve, release, waiting, copyIs, reserves, message, REQ, AUTH, DENIED, OBSOLETE, SCHEDULE, ACK, RESULT, OPEN, PRICED, NOWORK}
 use Rattle.table.proofs.Views.{Sized, views, sized-job, sized-node, sized-pool}
 use Rattle.elements.specs.Elements.{copyOk}
 use Rattle.slots.specs.Slots.{messageOk, withCopy}
@@ -48,7 +48,7 @@ module _ (t : Table) (s : Sized t) (o : Ok t) where
 
   pub ok-noWork : (b th : ℕ) → t .«in_flight» < 128 → b < t .machines → th < t .machines → Ok (noWork t b th)
   unfolding noWork message
-  ok-noWork b th l h k = ok-send t s o (message 8 b th 0 0 0) (λ e. l) (rw (lt-ltb b (t .machines) h, lt-ltb th (t .machines) k))
+  ok-noWork b th l h k = ok-send t s o (message NOWORK b th 0 0 0) (λ e. l) (rw (lt-ltb b (t .machines) h, lt-ltb th (t .machines) k))
 
 bound-enter : (t : Table) (m j r : ℕ) → bound (enter t m j r) ≡ bound t
 unfolding enter
@@ -132,7 +132,7 @@ module _ (t : Table) (x : Message) (s : Sized t) (o : Ok t) (l : t .«in_flight�
       let ps : Sized p = sized-pool t b j 0 s in
       let nv = node-reserve M E B b (nodeAt t b) (o .node b to-16) al j q (x .from) c from-m in
       let uo : Ok (withNode p b v) = ok-node p ps po b v to-16 (unfold reserve in simp views) (simp wide nv) in
-      ok-send (withNode p b v) (sized-node p b v ps) uo (message 2 b 0 j q (x .from)) (λ e. simp views l)
+      ok-send (withNode p b v) (sized-node p b v ps) uo (message REQ b 0 j q (x .from)) (λ e. simp views l)
       (simp wide (rw (lt-ltb b M to-m, root-m, c, lt-ltb (x .from) M from-m)))
 
   pub ok-fish : Ok (onFish t x)
@@ -157,7 +157,7 @@ module _ (t : Table) (x : Message) (s : Sized t) (o : Ok t) (l : t .«in_flight�
       byBool (reserves (nodeAt t b) (x .job) (x .replica) (x .thief))
       (λ a. rw (a, onAuth)
       (ok-send (withNode t b v) (sized-node t b v s) (ok-release t s o b to-16 al)
-      (message 6 b (x .thief) (x .job) (x .replica) 0) (λ e. simp views l)
+      (message SCHEDULE b (x .thief) (x .job) (x .replica) 0) (λ e. simp views l)
       (simp wide (rw (lt-ltb b M to-m, lt-ltb (x .thief) M th, copy-in M E B x g w)))))
       (λ a. rw (a, onAuth) o)
 
@@ -196,7 +196,7 @@ module _ (t : Table) (x : Message) (s : Sized t) (o : Ok t) (l : t .«in_flight�
       let v = waiting (nodeAt t b) 0 in
       let wo = ok-waiting u us (ok-enter t s o b (x .job) (x .replica) to-16 al c) b 0 to-16 (rw e al) (omega arith) in
       let uo : Ok (withNode u b v) = rw e at wo in
-      ok-send (withNode u b v) (sized-node u b v us) uo (message 7 b 0 (x .job) (x .replica) 0) (λ e. simp (views, used-enter) l)
+      ok-send (withNode u b v) (sized-node u b v us) uo (message ACK b 0 (x .job) (x .replica) 0) (λ e. simp (views, used-enter) l)
       (simp (wide, bound-enter, machines-enter, entries-enter) (rw (lt-ltb b M to-m, root-m, c)))
 
   pub ok-idle : Ok (onNoWork t x)
@@ -211,11 +211,11 @@ module _ (t : Table) (x : Message) (s : Sized t) (o : Ok t) (l : t .«in_flight�
       let h = job-64 (rw k) in
       let j = x .job in
       let v = jobAt t j in
-      let a1 = eqb (v .state) 1 in
+      let a1 = eqb (v .state) OPEN in
       let a2 = eqb (v .replica) (x .replica) in
       byBool (a1 && a2)
       (λ a.
-      let st : v .state ≡ 1 = eqb-true _ _ (and-left a1 a2 a) in
+      let st : v .state ≡ OPEN = eqb-true _ _ (and-left a1 a2 a) in
       rw (a, onAck) (ok-job t s o j (placed v (x .from)) h (job-placed M E B j v (o .job j h) (state-job M E B j v (λ z. omega arith)) (x .from) from-m)))
       (λ a. rw (a, onAck) o)
 
@@ -225,9 +225,9 @@ module _ (t : Table) (x : Message) (s : Sized t) (o : Ok t) (l : t .«in_flight�
       let h = job-64 (rw k) in
       let j = x .job in
       let v = jobAt t j in
-      byBool (eqb (v .state) 1)
+      byBool (eqb (v .state) OPEN)
       (λ a.
-      let st : v .state ≡ 1 = eqb-true _ _ a in
+      let st : v .state ≡ OPEN = eqb-true _ _ a in
       rw (a, onResult) (ok-job t s o j (priced v (x .price)) h (job-priced M E B j v (o .job j h) (state-job M E B j v (λ z. omega arith)) (x .price))))
       (λ a. rw (a, onResult) o)
 
@@ -259,12 +259,12 @@ module _ (t : Table) (x : Message) (s : Sized t) (o : Ok t) (l : t .«in_flight�
       let e0 = lt-ltb 0 M (omega (arith, machines-some t (o .sizes))) in
       let ef = lt-ltb (x .from) M (from-in M E B x g) in
       let et = lt-ltb (x .thief) M th in
-      byBool (eqb (v .state) 2 || not (eqb (v .replica) (x .replica)))
+      byBool (eqb (v .state) PRICED || not (eqb (v .replica) (x .replica)))
       (λ a. rw (a, onReq) (ok-reply t x s o l OBSOLETE (rw (e0, ef, c, et))))
       (λ a. byBool (not (eqb (toldAt t 0 (x .thief)) 0) || not (eqb (v .moving) 0))
       (λ b. rw (a, b, onReq) (ok-reply t x s o l DENIED (rw (e0, ef, c, et))))
       (λ b.
-      let re = current (eqb (v .state) 2) (v .replica) (x .replica) a in
+      let re = current (eqb (v .state) PRICED) (v .replica) (x .replica) a in
       let w = moved v (x .from) (x .thief) in
       let n = some-job M E B j v (omega (arith, copy-some E B j (x .replica) c)) in
       let uo : Ok (withJob t j w) = ok-job t s o j w h (job-moved M E B j v (o .job j h) n (x .from) (x .thief) (from-in M E B x g) th) in

@@ -11,9 +11,10 @@ use Rattle.lists.proofs.Keeps.{up-each}
 use Rattle.table.specs.declared.Table.{Table}
 use Rattle.table.specs.declared.Job.{Job}
 use Rattle.table.specs.declared.Machine.{Machine}
-use Rattle.table.specs.Views.{jobAt, nodeAt, toldAt, enter}
+use Rattle.table.specs.Views.{jobAt, nodeAt, toldAt}
+use Rattle.table.specs.Pools.{enter, returned}
 use Rattle.table.specs.Messages.{sift, notFrom}
-use Rattle.table.specs.Parts.{release, returned, waiting}
+use Rattle.table.specs.Parts.{release, waiting, OPEN}
 use Rattle.table.proofs.Views.{Sized, views, alive-node}
 use Rattle.table.proofs.Messages.{sized-sift}
 use Rattle.elements.specs.Elements.{copyOk}
@@ -179,7 +180,7 @@ module _ (t : Table) (s : Sized t) (o : Ok t) (b : ℕ) (bm : b < t .machines) (
       let v = jobAt t j in
       let jb : jobAt u j ≡ v = f .job j ∙ job-informed t 0 b j in
       let l : lost v b ≡ true = ap (λ (w : Job). lost w b) (sym jb) ∙ e in
-      let st : v .state ≡ 1 = eqb-true _ _ (and-left (eqb (v .state) 1) (eqb (v .holder) b || eqb (v .moving) 1 && eqb (v .thief) b) l) in
+      let st : v .state ≡ OPEN = eqb-true _ _ (and-left (eqb (v .state) OPEN) (eqb (v .holder) b || eqb (v .moving) 1 && eqb (v .thief) b) l) in
       let c = job-copy (t .machines) (t .entries) (bound t) j v (o .job j h) (state-job (t .machines) (t .entries) (bound t) j v (λ z. omega arith)) in
       let rp : jobAt u j .replica ≡ v .replica = ap (λ (w : Job). w .replica) jb in
       let sz : u .entries ≡ t .entries = f .size ∙ entries-informed t 0 b in

@@ -17,7 +17,7 @@ use Rattle.table.specs.declared.Machine.{Machine}
 use Rattle.table.specs.declared.Message.{Message}
 use Rattle.table.specs.declared.Table.{Table}
 use Rattle.table.specs.Views.{noJob, noMachine, jobAt, nodeAt, poolAt, toldAt, flight}
-use Rattle.table.specs.Parts.{lives}
+use Rattle.table.specs.Parts.{lives, NOT-ADMITTED, OPEN, PRICED}
 use Rattle.table.proofs.Views.{Sized}
 use Rattle.elements.specs.Elements.{copyOk, emptyJob, admittedOk, jobOk, reservedOk, runningOk, nodeOk}
 use Rattle.slots.specs.Slots.{withCopy, withThief, messageOk}
@@ -46,20 +46,20 @@ copy-one E B j r h c =
 
 -- its state and price
 record State (v : Job) : Type 0 where
-  some : v .state ≢ 0
+  some : v .state ≢ NOT-ADMITTED
   most : v .state ≤ 2
-  unpriced : v .state ≢ 2 → v .price ≡ 0
+  unpriced : v .state ≢ PRICED → v .price ≡ 0
 
 state : (v : Job) → admittedOk v ≡ true → State v
 state v g =
-    let a = eqb (v .state) 1 in
+    let a = eqb (v .state) OPEN in
     let b = eqb (v .price) 0 in
-    byOr (a && b) (eqb (v .state) 2) g
+    byOr (a && b) (eqb (v .state) PRICED) g
     (λ e.
-    let k : v .state ≡ 1 = eqb-true _ _ (and-left a b e) in
+    let k : v .state ≡ OPEN = eqb-true _ _ (and-left a b e) in
     record { some = λ n. omega arith; most = omega arith; unpriced = λ n. eqb-true _ _ (and-right a b e) })
     (λ e.
-    let k : v .state ≡ 2 = eqb-true _ _ e in
+    let k : v .state ≡ PRICED = eqb-true _ _ e in
     record { some = λ n. omega arith; most = omega arith; unpriced = λ n. absurd (n k) })
 
 module _ (t : Table) (o : Ok t) where

@@ -5,9 +5,9 @@ use mathlib.Core.Path.{_≡_, refl}
 use native.Mathlib.Omega.{arith}
 use Rattle.table.specs.declared.Job.{Job}
 use Rattle.table.specs.declared.Table.{Table}
-use Rattle.table.specs.Views.{withMessages, enter}
+use Rattle.table.specs.Views.{withMessages}
+use Rattle.table.specs.Pools.{enter, returned}
 use Rattle.table.specs.Messages.{pull}
-use Rattle.table.specs.Parts.{returned}
 use Rattle.table.proofs.Views.{Sized, views, sized-job, sized-node, sized-pool, sized-told}
 use Rattle.table.proofs.Messages.{sized-send, sized-pull, sized-sift}
 use Rattle.events.specs.Events.{admitted, delivered, died}

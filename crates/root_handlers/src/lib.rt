@@ -1,7 +1,7 @@
 // What the root does with a message that only the root receives: REQ, ACK and RESULT. Each function equals the definition of its name in
 // specs/RootHandlers.antt. The caller has taken the message off, so that a slot is free for the one message that a handler sends.
 ghost use mathlib.Core.Path.{_≡_};
-ghost use Rattle.messages.specs.Needs.{Room, Within};
+ghost use Rattle.table.specs.Needs.{Room, Within};
 ghost use Rattle.root_handlers.specs.RootHandlers.{reply, onReq, onAck, onResult};
 use table::Message;
 use table::Table;
@@ -35,10 +35,10 @@ pub fn on_req(t: Table, m: Message) -> Table
     let mut u = t;
     let j = m.job as usize;
     let mut job = u.jobs[j];
-    if (job.state == 2) | (job.replica != m.replica) {
+    if (job.state == table::PRICED) | (job.replica != m.replica) {
         return reply(u, m, table::OBSOLETE);
     }
-    let told = pools::told_at(u, 0, m.thief as usize);
+    let told = table::told_at(u, 0, m.thief as usize);
     if (told != 0) | (job.moving != 0) {
         return reply(u, m, table::DENIED);
     }
@@ -57,7 +57,7 @@ pub fn on_ack(t: Table, m: Message) -> Table
     let j = m.job as usize;
     let mut u = t;
     let mut job = u.jobs[j];
-    if (job.state == 1) & (job.replica == m.replica) {
+    if (job.state == table::OPEN) & (job.replica == m.replica) {
         job.moving = 0;
         job.holder = m.from;
         job.thief = 0;
@@ -74,8 +74,8 @@ pub fn on_result(t: Table, m: Message) -> Table
     let j = m.job as usize;
     let mut u = t;
     let mut job = u.jobs[j];
-    if job.state == 1 {
-        job.state = 2;
+    if job.state == table::OPEN {
+        job.state = table::PRICED;
         job.price = m.price;
         u.jobs[j] = job;
     }

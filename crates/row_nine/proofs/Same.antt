@@ -11,6 +11,7 @@ use lib.Dec.{eqb, leb, ltb}
 use Rattle.lists.proofs.Chains.{chain-joined}
 use Rattle.lists.proofs.Cases.{byBool, byEq, and-both}
 use Rattle.table.specs.declared.Table.{Table}
+use Rattle.table.specs.Parts.{NOT-ADMITTED}
 use Rattle.table.specs.Views.{noMessage, bondAt, jobAt, nodeAt, poolAt, toldAt, messageAt}
 use Rattle.table.proofs.Views.{Sized}
 use Rattle.elements.specs.Elements.{bondOk, jobOk, nodeOk, toldOk, cellOk}
@@ -129,7 +130,7 @@ module _ (t : Table) (s : Sized t) (e : tableOk t ≡ true) where
   unused : Unused t
   unused = record {
     bond = λ j h l. let c = o .bond j h in rw (le-ltb j (t .entries) l) at c;
-    entry = λ j h l. byEq (jobAt t j .state) 0 (λ d. d) (λ d. absurd (omega (arith, f .job j h .entry d)));
+    entry = λ j h l. byEq (jobAt t j .state) NOT-ADMITTED (λ d. d) (λ d. absurd (omega (arith, f .job j h .entry d)));
     pool-entry = f .pool-entry;
     unadmitted = λ j h z. f .job j h .none z;
     unpriced = λ j h n. f .job j h .unpriced n;

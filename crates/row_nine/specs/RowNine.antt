@@ -10,7 +10,7 @@ use mathlib.Core.Bool.{true, false}
 use Rattle.pricer.specs.Range.{inRange}
 use Rattle.table.specs.declared.Table.{Table}
 use Rattle.table.specs.Views.{noJob, noMachine, noMessage, bondAt, jobAt, nodeAt, poolAt, toldAt, messageAt}
-use Rattle.table.specs.Parts.{FISH, RESULT}
+use Rattle.table.specs.Parts.{FISH, RESULT, NOT-ADMITTED, PRICED}
 use Rattle.elements.specs.Elements.{emptyBond}
 use Rattle.slots.specs.Slots.{withCopy, withThief, toRoot}
 use Rattle.validity.specs.Validity.{bound}
@@ -24,9 +24,9 @@ pub record Counts (t : Table) : Type 0 where
 
 -- "number .. outside its range": machine numbers, job numbers, and replica numbers of "at least 1", where there is a use for them
 pub record Numbers (t : Table) : Type 0 where
-  pub holder : (j : ℕ) → j < 64 → jobAt t j .state ≢ 0 → jobAt t j .holder < t .machines
+  pub holder : (j : ℕ) → j < 64 → jobAt t j .state ≢ NOT-ADMITTED → jobAt t j .holder < t .machines
   pub thief : (j : ℕ) → j < 64 → jobAt t j .moving ≢ 0 → jobAt t j .thief < t .machines
-  pub replica : (j : ℕ) → j < 64 → jobAt t j .state ≢ 0 → 1 ≤ jobAt t j .replica
+  pub replica : (j : ℕ) → j < 64 → jobAt t j .state ≢ NOT-ADMITTED → 1 ≤ jobAt t j .replica
   pub waits : (m : ℕ) → m < 16 → nodeAt t m .waits ≤ t .machines
   pub reserved : (m : ℕ) → m < 16 → nodeAt t m .«reserved_replica» ≢ 0 → (nodeAt t m .«reserved_job» < t .entries) × (nodeAt t m .«reserved_thief» < t .machines)
   pub running : (m : ℕ) → m < 16 → nodeAt t m .«running_replica» ≢ 0 → nodeAt t m .«running_job» < t .entries
@@ -50,11 +50,11 @@ InRange t = (j : ℕ) → j < 64 → j < t .entries → inRange (bondAt t j) ≡
 pub record Unused (t : Table) : Type 0 where
   -- entry numbers from n on
   pub bond : (j : ℕ) → j < 64 → t .entries ≤ j → emptyBond (bondAt t j) ≡ true
-  pub entry : (j : ℕ) → j < 64 → t .entries ≤ j → jobAt t j .state ≡ 0
+  pub entry : (j : ℕ) → j < 64 → t .entries ≤ j → jobAt t j .state ≡ NOT-ADMITTED
   pub pool-entry : (m j : ℕ) → m < 16 → j < 64 → poolAt t m j ≢ 0 → j < t .entries
   -- "a job not admitted has replica 0 and place 0, a job not priced has price bits 0"; a job on p has no second machine
-  pub unadmitted : (j : ℕ) → j < 64 → jobAt t j .state ≡ 0 → jobAt t j ≡ noJob
-  pub unpriced : (j : ℕ) → j < 64 → jobAt t j .state ≢ 2 → jobAt t j .price ≡ 0
+  pub unadmitted : (j : ℕ) → j < 64 → jobAt t j .state ≡ NOT-ADMITTED → jobAt t j ≡ noJob
+  pub unpriced : (j : ℕ) → j < 64 → jobAt t j .state ≢ PRICED → jobAt t j .price ≡ 0
   pub still : (j : ℕ) → j < 64 → jobAt t j .moving ≡ 0 → jobAt t j .thief ≡ 0
   -- machine numbers from the count on
   pub machine : (m : ℕ) → m < 16 → t .machines ≤ m → nodeAt t m .alive ≡ 0

@@ -37,7 +37,7 @@ fn to_root(k: u8) -> bool
 fn kind_ok(m: Message) -> bool
     ensures { λ r. ⌜ r ≡ kindOk m ⌝ }
 {
-    (1 <= m.kind) & (m.kind <= 9) & ((m.kind == 9) | (m.price == 0))
+    (table::FISH <= m.kind) & (m.kind <= table::RESULT) & ((m.kind == table::RESULT) | (m.price == 0))
 }
 
 fn ends_ok(machines: u8, m: Message) -> bool

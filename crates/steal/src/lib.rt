@@ -23,7 +23,7 @@ pub fn steal_number(t: Table, a: u8, b: u8) -> u8
     if n.waits != 0 {
         return 14;
     }
-    let told = pools::told_at(t, a as usize, b as usize);
+    let told = table::told_at(t, a as usize, b as usize);
     if told != 0 {
         return 14;
     }

@@ -8,7 +8,7 @@ use native.Mathlib.Nat.{not-suc-le-zero}
 use Rattle.table.specs.declared.Table.{Table}
 use Rattle.lists.proofs.Keeps.{up-each, up-keeps}
 use Rattle.table.specs.Views.{bondAt, jobAt, nodeAt, poolAt, toldAt, flight, withPool}
-use Rattle.table.specs.Messages.{wipe}
+use Rattle.table.specs.Pools.{wipe}
 use Rattle.lists.proofs.Cases.{byEq}
 use Rattle.table.proofs.Views.{Sized, sized-pool, pool-same, pool-other-job, pool-other-node, bond-pool, job-pool, node-pool, told-pool, flight-pool, machines-pool, entries-pool, used-pool}
 

@@ -1,3 +1,5 @@
 pub mod Views
 pub mod Messages
 pub mod Parts
+pub mod Pools
+pub mod Needs

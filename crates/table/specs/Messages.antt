@@ -1,14 +1,14 @@
--- The messages: sending, finding the oldest of a channel, taking one off, dropping some; and the scans of a pool.
+-- The messages: sending, finding the oldest of a channel, taking one off, dropping some.
 use mathlib.Core.Path.{_≡_}
 use mathlib.Core.List.{[], _∷_, _++_}
 use mathlib.Core.Bool.{Bool, not, cond, _&&_}
 use Prim.Native.Nat.{ℕ, _+_, _-_, _<_}
 use lib.Dec.{eqb}
 use lib.ListN.{length, set}
-use Rattle.lists.specs.Scan.{least, filter, padTo, without, upTo}
+use Rattle.lists.specs.Scan.{least, filter, padTo, without}
 use Rattle.table.specs.declared.Message.{Message}
 use Rattle.table.specs.declared.Table.{Table}
-use Rattle.table.specs.Views.{noMessage, nodeAt, poolAt, messageAt, flight, withMessages, withPool}
+use Rattle.table.specs.Views.{noMessage, nodeAt, messageAt, flight, withMessages}
 
 -- "messages fill the slots from the first": m fills the next slot
 unfoldable pub push : Table → Message → Table
@@ -45,11 +45,3 @@ notTo x m = not (eqb (m .to) x)
 -- what stays where "undelivered messages from b to a are dropped"
 abbrev pub notFrom : ℕ → ℕ → Message → Bool
 notFrom b a m = not (eqb (m .from) b && eqb (m .to) a)
-
--- "the lowest job" in the pool of machine m, or 64 where it is empty
-unfoldable pub lowest : Table → ℕ → ℕ
-lowest t m = least (λ j. not (eqb (poolAt t m j) 0)) 64
-
--- "its pool .. cleared": that of machine m
-unfoldable pub wipe : Table → ℕ → Table
-wipe t m = upTo (λ j u. withPool u m j 0) 64 t

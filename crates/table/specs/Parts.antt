@@ -1,20 +1,30 @@
 -- One-part updates of a job and of a machine, the copies and messages that they speak of, and what an event answers. The updates are opaque: a proof of
 -- code unfolds them by the one name `pieces`.
 use mathlib.Core.Bool.{Bool, not, _&&_}
-use Prim.Native.Nat.{ℕ, _+_}
+use Prim.Native.Nat.{ℕ}
 use lib.Dec.{eqb}
 use Rattle.table.specs.declared.Job.{Job}
 use Rattle.table.specs.declared.Machine.{Machine}
 use Rattle.table.specs.declared.Message.{Message}
 use Rattle.table.specs.declared.Table.{Table}
 use Rattle.table.specs.declared.Answer.{Answer}
-use Rattle.table.specs.Views.{nodeAt, withNode, enter, refuse}
+use Rattle.table.specs.Views.{nodeAt, refuse}
 
 -- ---- a job
 
+-- its states: "not admitted, open or priced"
+abbrev pub NOT-ADMITTED : ℕ
+NOT-ADMITTED = 0
+
+abbrev pub OPEN : ℕ
+OPEN = 1
+
+abbrev pub PRICED : ℕ
+PRICED = 2
+
 -- open, with this replica number, on the root
 unfoldable pub opened : ℕ → Job
-opened r = record { state = 1; replica = r; moving = 0; holder = 0; thief = 0; price = 0 }
+opened r = record { state = OPEN; replica = r; moving = 0; holder = 0; thief = 0; price = 0 }
 
 -- moving from one machine to another
 unfoldable pub moved : Job → ℕ → ℕ → Job
@@ -26,7 +36,7 @@ placed v p = record { state = v .state; replica = v .replica; moving = 0; holder
 
 -- priced; "a priced job keeps the replica number and place it had when priced"
 unfoldable pub priced : Job → ℕ → Job
-priced v bits = record { state = 2; replica = v .replica; moving = v .moving; holder = v .holder; thief = v .thief; price = bits }
+priced v bits = record { state = PRICED; replica = v .replica; moving = v .moving; holder = v .holder; thief = v .thief; price = bits }
 
 -- ---- a machine
 
@@ -64,10 +74,6 @@ copyIs j r th k q u = eqb j k && (eqb r q && eqb th u)
 -- the reserved copy is (job j, replica r, thief th)
 unfoldable pub reserves : Machine → ℕ → ℕ → ℕ → Bool
 reserves n j r th = not (eqb (n .«reserved_replica») 0) && copyIs (n .«reserved_job») (n .«reserved_replica») (n .«reserved_thief») j r th
-
--- the reserved copy of machine m returns to its pool
-unfoldable pub returned : Table → ℕ → Table
-returned t m = withNode (enter t m (nodeAt t m .«reserved_job») (nodeAt t m .«reserved_replica»)) m (release (nodeAt t m))
 
 -- ---- messages
 

@@ -22,7 +22,7 @@
 --   the message kinds                                                messages[i].kind   1 FISH, 2 REQ, 3 AUTH, 4 DENIED, 5 OBSOLETE, 6 SCHEDULE, 7 ACK, 8 NOWORK, 9 RESULT
 --   what a message carries                                           messages[i].from, .to, .job, .replica, .thief, .price; 0 where its kind has no use for it
 use mathlib.Core.List.{List}
-use Prim.Native.Nat.{ℕ, _+_, _*_, max}
+use Prim.Native.Nat.{ℕ, _+_, _*_}
 use lib.ListN.{getD, set, take}
 use lib.Ieee.{nan}
 use Rattle.pricer.specs.declared.Bond.{Bond}
@@ -104,7 +104,3 @@ parts = 0
 -- "A refusal returns its number; table and buffers are unchanged"
 abbrev pub refuse : ℕ → Table → Answer
 refuse n t = record { number = n; table = t }
-
--- "Adding a copy to a pool keeps the larger replica number."
-unfoldable pub enter : Table → ℕ → ℕ → ℕ → Table
-enter t m j r = withPool t m j (max (poolAt t m j) r)

@@ -3,7 +3,8 @@
 // variable first.
 // What each field holds is listed at the head of specs/Views.antt. What is unused is 0 throughout.
 ghost use mathlib.Core.Path.{_≡_};
-ghost use Rattle.table.specs.Views.{refuse};
+ghost use Prim.Native.Nat.{_<_};
+ghost use Rattle.table.specs.Views.{toldAt, refuse};
 use pricer::Bond;
 
 pub struct Job {
@@ -62,6 +63,22 @@ pub fn refuse(number: u8, t: Table) -> Answer
         table: t,
     }
 }
+
+// 1 where machine m has been told that machine d is dead.
+pub fn told_at(t: Table, m: usize, d: usize) -> u8
+    requires { ⌜ (m < 16) × (d < 16) ⌝ }
+    ensures { λ r. ⌜ r ≡ toldAt t m d ⌝ }
+{
+    let told = t.told;
+    told[m * 16 + d]
+}
+
+// The states of a job.
+pub const NOT_ADMITTED: u8 = 0;
+
+pub const OPEN: u8 = 1;
+
+pub const PRICED: u8 = 2;
 
 // The kinds of a message, named as in document 01.
 pub const FISH: u8 = 1;

@@ -2,7 +2,8 @@
 -- m .to is the machine that handles it. Definitions only.
 use Rattle.table.specs.declared.Message.{Message}
 use Rattle.table.specs.declared.Table.{Table}
-use Rattle.table.specs.Views.{nodeAt, withNode, enter}
+use Rattle.table.specs.Views.{nodeAt, withNode}
+use Rattle.table.specs.Pools.{enter}
 use Rattle.table.specs.Messages.{send}
 use Rattle.table.specs.Parts.{waiting, message, ACK}
 

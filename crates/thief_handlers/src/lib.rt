@@ -1,7 +1,7 @@
 // What a thief does with the answer to its FISH: SCHEDULE or NOWORK. Each function equals the definition of its name in specs/ThiefHandlers.antt.
 // The caller has taken the message off, so that a slot is free for the ACK of a SCHEDULE.
 ghost use mathlib.Core.Path.{_≡_};
-ghost use Rattle.messages.specs.Needs.{Room, Within};
+ghost use Rattle.table.specs.Needs.{Room, Within};
 ghost use Rattle.thief_handlers.specs.ThiefHandlers.{onSchedule, onNoWork};
 use table::Message;
 use table::Table;

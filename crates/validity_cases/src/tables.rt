@@ -25,7 +25,7 @@ fn bonds() -> [Bond; 64] {
 // Job 0 open and moving from 1 to 2, job 1 priced and on 3, job 2 not admitted.
 fn jobs() -> [Job; 64] {
     let none = Job {
-        state: 0,
+        state: table::NOT_ADMITTED,
         replica: 0,
         moving: 0,
         holder: 0,
@@ -34,7 +34,7 @@ fn jobs() -> [Job; 64] {
     };
     let mut all = [none; 64];
     all[0] = Job {
-        state: 1,
+        state: table::OPEN,
         replica: 1,
         moving: 1,
         holder: 1,
@@ -42,7 +42,7 @@ fn jobs() -> [Job; 64] {
         price: 0,
     };
     all[1] = Job {
-        state: 2,
+        state: table::PRICED,
         replica: 2,
         moving: 0,
         holder: 3,

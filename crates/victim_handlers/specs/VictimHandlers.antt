@@ -6,8 +6,9 @@ use lib.Dec.{eqb, leb}
 use Rattle.table.specs.declared.Message.{Message}
 use Rattle.table.specs.declared.Table.{Table}
 use Rattle.table.specs.Views.{nodeAt, poolAt, withNode, withPool}
-use Rattle.table.specs.Messages.{send, lowest}
-use Rattle.table.specs.Parts.{reserve, release, reserves, returned, message, REQ, SCHEDULE, NOWORK}
+use Rattle.table.specs.Messages.{send}
+use Rattle.table.specs.Pools.{lowest, returned}
+use Rattle.table.specs.Parts.{reserve, release, reserves, message, REQ, SCHEDULE, NOWORK}
 
 -- machine b sends th NOWORK
 unfoldable pub noWork : Table → ℕ → ℕ → Table

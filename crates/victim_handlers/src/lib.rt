@@ -4,7 +4,7 @@ ghost use mathlib.Core.Path.{_≡_};
 ghost use Prim.Native.Nat.{_<_};
 ghost use Rattle.table.specs.Views.{nodeAt, withNode};
 ghost use Rattle.table.specs.Parts.{release, reserves};
-ghost use Rattle.messages.specs.Needs.{Room, Within};
+ghost use Rattle.table.specs.Needs.{Room, Within};
 ghost use Rattle.victim_handlers.specs.VictimHandlers.{noWork, grant, onFish, onAuth, onDenied, onObsolete};
 use table::Machine;
 use table::Message;

@@ -1,7 +1,8 @@
 -- `pools::enter` meets its contract. The larger number is stored where the definition has it.
 -- Assumes nothing.
 use borrow.Author.Needs.{needs}
-use Rattle.table.specs.Views.{enter, parts}
+use Rattle.table.specs.Views.{parts}
+use Rattle.table.specs.Pools.{enter}
 use Rattle.pools.proofs.enter.Statement.{statement}
 use Rattle.pools.proofs.enter.Tie as tie
 

@@ -9,7 +9,7 @@ use mathlib.Core.Path.{_≡_, ap, sym}
 use Rattle.lists.proofs.Rules.{tests}
 use Rattle.lists.proofs.Scans.{least-end, least-found, least-more, least-none}
 use Rattle.lists.specs.Scan.{least}
-use Rattle.table.specs.Messages.{lowest}
+use Rattle.table.specs.Pools.{lowest}
 use Rattle.table.specs.Views.{parts}
 use Rattle.pools.proofs.lowest.Statement.{statement}
 use Rattle.pools.proofs.lowest.Tie as tie

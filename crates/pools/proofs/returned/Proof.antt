@@ -2,7 +2,8 @@
 -- Assumes nothing.
 use borrow.Author.Needs.{needs}
 use Rattle.lists.proofs.Rules.{tests}
-use Rattle.table.specs.Parts.{pieces, returned}
+use Rattle.table.specs.Parts.{pieces}
+use Rattle.table.specs.Pools.{returned}
 use Rattle.table.specs.Views.{parts}
 use Rattle.pools.proofs.returned.Statement.{statement}
 use Rattle.pools.proofs.returned.Tie as tie

@@ -5,7 +5,7 @@ use mathlib.Core.Path.{_≡_}
 use Rattle.lists.proofs.Rules.{tests}
 use Rattle.lists.proofs.Scans.{up-end, up-more, up-none}
 use Rattle.lists.specs.Scan.{upTo}
-use Rattle.table.specs.Messages.{wipe}
+use Rattle.table.specs.Pools.{wipe}
 use Rattle.table.specs.Views.{parts, withPool}
 use Rattle.pools.proofs.wipe.Statement.{statement}
 use Rattle.pools.proofs.wipe.Tie as tie

@@ -3,7 +3,8 @@
 use borrow.Author.Needs.{needs}
 use Rattle.lists.proofs.Rules.{tests}
 use Rattle.table.specs.Parts.{message, pieces}
-use Rattle.table.specs.Views.{enter, parts}
+use Rattle.table.specs.Views.{parts}
+use Rattle.table.specs.Pools.{enter}
 use Rattle.thief_handlers.specs.ThiefHandlers.{onSchedule}
 use Rattle.thief_handlers.proofs.on_schedule.Statement.{statement}
 use Rattle.thief_handlers.proofs.on_schedule.Tie as tie

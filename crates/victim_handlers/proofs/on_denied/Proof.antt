@@ -3,8 +3,8 @@
 use borrow.Author.Needs.{needs}
 use mathlib.Core.Path.{_∙_, sym}
 use Rattle.lists.proofs.Rules.{tests}
-use Rattle.table.specs.Parts.{returned}
-use Rattle.table.specs.Views.{enter, parts}
+use Rattle.table.specs.Pools.{returned, enter}
+use Rattle.table.specs.Views.{parts}
 use Rattle.victim_handlers.proofs.Reserved.{reserves-job}
 use Rattle.victim_handlers.specs.VictimHandlers.{onDenied}
 use Rattle.victim_handlers.proofs.on_denied.Statement.{statement}

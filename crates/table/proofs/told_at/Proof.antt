@@ -1,10 +1,10 @@
--- `pools::told_at` meets its contract. The place in the flat array is that of the view.
+-- `table::told_at` meets its contract. The place in the flat array is that of the view.
 -- Assumes nothing.
 use borrow.Author.Needs.{needs}
 use Rattle.lists.proofs.Rules.{flags}
 use Rattle.table.specs.Views.{parts}
-use Rattle.pools.proofs.told_at.Statement.{statement}
-use Rattle.pools.proofs.told_at.Tie as tie
+use Rattle.table.proofs.told_at.Statement.{statement}
+use Rattle.table.proofs.told_at.Tie as tie
 
 returns : tie.Need-returns
 unfolding parts
