@@ -1,4 +1,4 @@
-/* Document 01's listing through the C interface: opens the book, gives the kept table one event after another, and prints what is refused,
+/* Document 01's listing through the C interface: opens the book, gives the snapshot one event after another, and prints what is refused,
  * then the page of the same book and events in one call. Exit status 1 where something is not as the listing says. */
 #include <stdio.h>
 #include <string.h>

@@ -1,7 +1,7 @@
 /* Rakhvide's functions for programs in C, and for any language that calls C: the static library that `rt staticlib rakhvide_c` writes.
  *
  * What each function answers is proved for every content of its buffers (crates/rakhvide_c); that this header declares them as they are is not. The bytes
- * of a book, of an event and of a kept table are in docs/LAYOUT.md, what the numbers mean in docs/PROTOCOL.md. What is left to the caller, and cannot be
+ * of a book, of an event and of a snapshot are in docs/LAYOUT.md, what the numbers mean in docs/PROTOCOL.md. What is left to the caller, and cannot be
  * proved here:
  *   - a pointer is not null, also where its length is 0, and the bytes from it to its length are there;
  *   - a buffer that is written (no `const`) overlaps no other argument;
@@ -23,7 +23,7 @@ extern "C" {
 /* No page is longer: the length that rakhvide_page asks of its buffer. */
 #define RAKHVIDE_PAGE 463072
 
-/* The length of a kept table. */
+/* The length of a snapshot. */
 #define RAKHVIDE_TABLE 5171
 
 /* An identifier by ISO 6166: 0, or 4 for its form (another length than 12 too), or 5 for its check digit. */
@@ -46,7 +46,7 @@ uint64_t rakhvide_price_fixed(uint8_t periods, double coupon, double yield);
 bool rakhvide_page(const uint8_t *book, size_t book_length, const uint8_t *events, size_t events_length,
                    uint8_t *out, size_t out_length, size_t *written);
 
-/* A kept table: RAKHVIDE_TABLE bytes that a program may store and read again. It has the terms of each entry and not the identifiers: keep the book too.
+/* A snapshot: RAKHVIDE_TABLE bytes that a program may store and read again. It has the terms of each entry and not the identifiers: keep the book too.
  * Opens the book: its number; 9 where the table's buffer has another length than RAKHVIDE_TABLE; or 0, and the fresh table is written. */
 uint8_t rakhvide_open(const uint8_t *book, size_t book_length, uint8_t *table, size_t table_length);
 

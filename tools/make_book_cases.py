@@ -1,5 +1,5 @@
 #!/usr/bin/python3
-"""Writes the books that the program book_cases is run on, and what it must print.
+"""Writes the books that the program test_book is run on, and what it must print.
 
 To run, at the root of the repository: /usr/bin/python3 tools/make_book_cases.py
 It needs Python's standard library only (last run with Python 3.11).
@@ -18,7 +18,7 @@ import struct
 
 from vector_files import ROOT, fail_unless
 
-CRATE = ROOT / "crates" / "book_cases"
+CRATE = ROOT / "crates" / "test_book"
 MOST = 65536  # bytes that the program reads of a file
 NUMBERS = [0, 1, 2, 3, 4, 5, 6, 7]  # accepted, and the refusals of a book
 TOO_LARGE = 11  # the number of an entry number of n or more

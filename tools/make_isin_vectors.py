@@ -1,5 +1,5 @@
 #!/usr/bin/python3
-"""Writes the identifiers that the program vectors is run on, and what it must print.
+"""Writes the identifiers that the program test_vectors is run on, and what it must print.
 
 To run, at the root of the repository: /usr/bin/python3 tools/make_isin_vectors.py
 It needs: apt-get install python3-stdnum libalgorithm-checkdigits-perl (last run with 1.18 and 1.3.6 of Debian 12)

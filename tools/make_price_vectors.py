@@ -1,5 +1,5 @@
 #!/usr/bin/python3
-"""Writes the terms and prices that the program vectors is run on, and what it must print.
+"""Writes the terms and prices that the program test_vectors is run on, and what it must print.
 
 To run, at the root of the repository: /usr/bin/python3 tools/make_price_vectors.py
 It needs: apt-get install gcc (last run with 12.2 and Python 3.11 of Debian 12)

@@ -1,21 +1,21 @@
 #!/usr/bin/python3
-"""Writes the data and the output of the programs that print a page: rakhvide, sample_close and four more.
+"""Writes the data and the output of the programs that print a page: rakhvide, rakhvide_sample and four more.
 
 To run, at the root of the repository: /usr/bin/python3 tools/make_sample.py
 It needs Python's standard library only (last run with Python 3.11).
 
 Each is the same program on other data:
 
-    rakhvide       the listing of document 01, "Examples", with the output printed there
-    sample_close   a book of 20 municipal and corporate bonds, and a list of events in which three machines steal from the root and
-                   from each other, one of them dies with bonds in hand, its bonds come back under the next replica number, and
-                   every bond is priced in the end; a few events of the list are refused
-    no_files       neither book.bin nor events.bin
-    refused_book   a book whose second entry has a wrong check digit and whose third has another form
-    long_list      20,000 events, of which the last is refused, and two more that are not read
-    broken_event   a last event of two bytes
+    rakhvide            the listing of document 01, "Examples", with the output printed there
+    rakhvide_sample     a book of 20 municipal and corporate bonds, and a list of events in which three machines steal from the root and
+                        from each other, one of them dies with bonds in hand, its bonds come back under the next replica number, and
+                        every bond is priced in the end; a few events of the list are refused
+    test_no_files       neither book.bin nor events.bin
+    test_refused_book   a book whose second entry has a wrong check digit and whose third has another form
+    test_long_list      20,000 events, of which the last is refused, and two more that are not read
+    test_broken_event   a last event of two bytes
 
-The events of sample_close are chosen at random, with a fixed seed, by way of the table of model.py, which is document 01 in Python
+The events of rakhvide_sample are chosen at random, with a fixed seed, by way of the table of model.py, which is document 01 in Python
 and shares nothing with the crates; its page is the model's, but the prices are decided by exact rational arithmetic whose every
 operation is rounded once to the nearest binary64, ties to even. The other pages are written here by hand from document 01's text,
 "The program's page". The script fails where a price or a page of the model differs.
@@ -88,14 +88,14 @@ def listing() -> Program:
 
 def no_files() -> Program:
     """A file that cannot be opened counts as empty, and a book has 4 bytes at least."""
-    return Program("no_files", None, None, "book refused 1\n")
+    return Program("test_no_files", None, None, "book refused 1\n")
 
 
 def refused_book() -> Program:
     """The number is that of the lowest faulty entry, and nothing more is printed, though event 3 would be refused."""
     first, second = LISTING_BONDS
     bonds = [first, second._replace(identifier=b"ZZ0000000025"), second._replace(identifier=b"ZZ000000016 ")]
-    return Program("refused_book", books.book_of(2, bonds), lists.make("admit 0\nsteal 1 from 0\ndie 0\n"), "book refused 5\n")
+    return Program("test_refused_book", books.book_of(2, bonds), lists.make("admit 0\nsteal 1 from 0\ndie 0\n"), "book refused 5\n")
 
 
 def long_list() -> Program:
@@ -103,14 +103,14 @@ def long_list() -> Program:
     idle = "steal 1 from 0\ndeliver 1 to 0\ndeliver 0 to 1\n"  # FISH, and NOWORK from an empty pool
     text = 6666 * idle + "steal 1 from 0\ndie 0\n" + "admit 0\ndie 0\n"
     page = "event 20000 refused 20\nZZ0000000016 not admitted\n"
-    return Program("long_list", books.book_of(2, LISTING_BONDS[:1]), lists.make(text), page)
+    return Program("test_long_list", books.book_of(2, LISTING_BONDS[:1]), lists.make(text), page)
 
 
 def broken_event() -> Program:
     """An event of too few bytes is refused 10: 1 1 is not the admission of the second bond."""
     page = "event 4 refused 10\nZZ0000000016 open replica 1\nZZ0000000024 not admitted\n"
     text = "admit 0\nsteal 1 from 0\ndeliver 1 to 0\nraw 1 1\n"
-    return Program("broken_event", books.book_of(2, LISTING_BONDS), lists.make(text), page)
+    return Program("test_broken_event", books.book_of(2, LISTING_BONDS), lists.make(text), page)
 
 
 # The sample close.
@@ -182,7 +182,7 @@ def sample_close() -> Program:
     book, events = books.book_of(SAMPLE_MACHINES, SAMPLE_BONDS), Close(random.Random(20)).events
     page = model.page(book, events)
     fail_unless(page.count(" priced ") == len(SAMPLE_BONDS) and " replica 2\n" in page, "a bond is not priced, or none came back")
-    return Program("sample_close", book, events, page)
+    return Program("rakhvide_sample", book, events, page)
 
 
 # The files.

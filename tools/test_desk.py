@@ -5,7 +5,7 @@
 
 It needs Python 3.10 or later and its standard library only, and writes to a temporary folder. Where mypy (Debian: mypy) is there it checks the
 annotations, where cargo is there it builds what bench/run load needs. What is expected is document 01's, or was decided by
-other programs: the books of book_cases with their numbers, the prices of the sample close.
+other programs: the books of test_book with their numbers, the prices of the sample close.
 """
 import contextlib
 import io
@@ -97,8 +97,8 @@ def tool(name, *arguments, output=subprocess.PIPE, errors=subprocess.PIPE, befor
 
 
 def book_cases():
-    """The books of book_cases, each with its number."""
-    for file in sorted((CRATES / "book_cases" / "data").glob("*.bin")):
+    """The books of test_book, each with its number."""
+    for file in sorted((CRATES / "test_book" / "data").glob("*.bin")):
         data, at = file.read_bytes(), 0
         while at < len(data):
             length, number, _, _, questions = struct.unpack_from("<HBBBB", data, at)
@@ -545,27 +545,27 @@ class Model(Folder):
         self.assertEqual(tool("model.py", self.folder).stdout.decode(), LISTING_PAGE)
 
     def test_programs(self):
-        """The pages that the programs must print; no_files has no folder of data."""
-        for crate, status in (("rakhvide", 0), ("sample_close", 0), ("refused_book", 3), ("long_list", 0), ("broken_event", 0)):
+        """The pages that the programs must print; test_no_files has no folder of data."""
+        for crate, status in (("rakhvide", 0), ("rakhvide_sample", 0), ("test_refused_book", 3), ("test_long_list", 0), ("test_broken_event", 0)):
             done = tool("model.py", CRATES / crate / "data")
             self.assertEqual((done.stdout, done.returncode), ((CRATES / crate / "stdout").read_bytes(), status))
-            self.assertEqual(b"events.bin has 20002 events: the first 20000 are read\n" in done.stderr, crate == "long_list")
-            self.assertEqual(len(done.stderr.splitlines()), crate == "long_list")
-        self.assertEqual(tool("model.py", self.folder).stdout, (CRATES / "no_files" / "stdout").read_bytes())
-        self.assertFalse((CRATES / "no_files" / "data").exists())
+            self.assertEqual(b"events.bin has 20002 events: the first 20000 are read\n" in done.stderr, crate == "test_long_list")
+            self.assertEqual(len(done.stderr.splitlines()), crate == "test_long_list")
+        self.assertEqual(tool("model.py", self.folder).stdout, (CRATES / "test_no_files" / "stdout").read_bytes())
+        self.assertFalse((CRATES / "test_no_files" / "data").exists())
 
     def test_program_files(self):
-        """The bytes that the pages of long_list and broken_event are about."""
-        data = (CRATES / "long_list" / "data" / "events.bin").read_bytes()
+        """The bytes that the pages of test_long_list and test_broken_event are about."""
+        data = (CRATES / "test_long_list" / "data" / "events.bin").read_bytes()
         self.assertEqual((len(data), events.show(data[59997:])), (60006, "die 0\nadmit 0\ndie 0\n"))
-        self.assertEqual((CRATES / "broken_event" / "data" / "events.bin").read_bytes()[9:], bytes([1, 1]))
+        self.assertEqual((CRATES / "test_broken_event" / "data" / "events.bin").read_bytes()[9:], bytes([1, 1]))
 
     def test_decimal(self):
         self.file("book.bin", book.make(LISTING_BOOK))
         self.file("events.bin", events.make(LISTING_EVENTS))
         shown = tool("model.py", self.folder, "--decimal").stdout.decode()
         self.assertEqual(shown, LISTING_PAGE.replace("405A000000000000 ", "405A000000000000 104.0 "))
-        data = CRATES / "sample_close" / "data"
+        data = CRATES / "rakhvide_sample" / "data"
         lines = [line.split() for line in tool("model.py", "--decimal", data).stdout.decode().splitlines()]
         priced = [words for words in lines if words[1] == "priced"]
         self.assertTrue(priced)
@@ -694,7 +694,7 @@ class Samples(unittest.TestCase):
         return book.make((folder / "book.csv").read_text()), events.make((folder / "events.txt").read_text())
 
     def test_sample_close_is_the_data_of_the_program(self):
-        self.assertEqual(self.made(SAMPLE), model.read_folder(CRATES / "sample_close" / "data")[:2])
+        self.assertEqual(self.made(SAMPLE), model.read_folder(CRATES / "rakhvide_sample" / "data")[:2])
 
     def test_page_of_the_first_run(self):
         """As the README prints it; 104 is document 01's price."""
@@ -730,7 +730,7 @@ class Picture(Folder):
         self.assertEqual(sum(f"refused {number}:" in text for number in set(numbers) for text in words), len(numbers))
 
     def test_programs(self):
-        for crate in ("rakhvide", "sample_close"):
+        for crate in ("rakhvide", "rakhvide_sample"):
             self.assert_complete(*model.read_folder(CRATES / crate / "data")[:2])
 
     def test_random_runs(self):
@@ -1058,7 +1058,7 @@ class Damage(Folder):
         with open("/dev/full", "wb") as full:
             for how in ({"errors": full}, {"errors": None, "before": lambda: os.close(2)}):
                 self.assertEqual(tool("book.py", "make", rows, self.folder / "new.bin", **how).returncode, 0)
-                self.assertEqual(tool("model.py", CRATES / "refused_book" / "data", **how).returncode, 3)
+                self.assertEqual(tool("model.py", CRATES / "test_refused_book" / "data", **how).returncode, 3)
                 self.assertEqual(tool("model.py", self.folder, **how).returncode, 1)
 
     def test_output_that_is_closed(self):

@@ -1,5 +1,5 @@
 #!/usr/bin/python3
-"""Writes the cases that the program validity_cases is run on, and what it must print.
+"""Writes the cases that the program test_validity is run on, and what it must print.
 
 To run, at the root of the repository: /usr/bin/python3 tools/validity_cases.py
 
@@ -7,7 +7,7 @@ A case is a label, the changes made to one table that passes check 9, and the an
 read off document 01, "The table" and row 9 of "Where each refusal is checked", whose words stand above the cases; no
 program of this repository decides one. A case that passes stands beside those refused where the two differ little.
 
-The table that every case starts from (crates/validity_cases/src/tables.rt builds it): 4 machines, of which 3 is dead and
+The table that every case starts from (crates/test_validity/src/tables.rt builds it): 4 machines, of which 3 is dead and
 the root was told of it, so that no replica number is above 2; 3 entries. Job 0 is open with replica 1, moving from 1 to 2;
 job 1 is priced with replica 2, on 3; job 2 is not admitted. Machine 1 has the copy (job 0, replica 1, thief 2) reserved and
 waits on 0; machine 2 runs (job 1, replica 2). The pool of 0 has job 1 with replica 2, that of 2 has job 0 with replica 1.
@@ -15,7 +15,7 @@ In flight are FISH from 2 to 1, AUTH (job 0, replica 1, thief 2) from 0 to 1, RE
 """
 from vector_files import ROOT, fail_unless
 
-CRATE = ROOT / "crates" / "validity_cases"
+CRATE = ROOT / "crates" / "test_validity"
 LABEL = 40  # bytes of a label
 CHANGES = 8  # changes of a case at most
 

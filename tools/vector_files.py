@@ -1,8 +1,8 @@
-"""The data files of the program vectors, and what it must print of them. For make_isin_vectors.py and make_price_vectors.py.
+"""The data files of the program test_vectors, and what it must print of them. For make_isin_vectors.py and make_price_vectors.py.
 
 It is not run by itself, and needs Python's standard library only. The other scripts that write data use ROOT and fail_unless.
 
-A record has 32 bytes, of which the first is its class (crates/vectors/src/main.rt). A file has at most 65,536 bytes, as many as the
+A record has 32 bytes, of which the first is its class (crates/test_vectors/src/main.rt). A file has at most 65,536 bytes, as many as the
 program reads. The program prints a section for each file, with a line for each class.
 """
 import pathlib
@@ -12,7 +12,7 @@ SIZE = 32  # bytes of a record
 MOST = 65536 // SIZE  # records of a file
 
 ROOT = pathlib.Path(__file__).resolve().parent.parent
-CRATE = ROOT / "crates" / "vectors"
+CRATE = ROOT / "crates" / "test_vectors"
 
 VERDICTS = [("verdict 0", 0), ("verdict 4", 4), ("verdict 5", 5)]
 BONDS = [("zero-coupon", 1), ("fixed coupon", 2), ("refused", 7)]

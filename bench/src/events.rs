@@ -1,4 +1,4 @@
-//! Events: a page of the proved library, one event at a time on a kept table, and the second implementation with and without check 9.
+//! Events: a page of the proved library, one event at a time on a snapshot, and the second implementation with and without check 9.
 
 use crate::timing::best;
 use second::table::{Table, BYTES as TABLE};
@@ -102,7 +102,7 @@ fn row(machines: u8, count: usize) {
 }
 
 pub fn table(sizes: &[(u8, usize)]) {
-    println!("| machines | events | page | kept step | kept check | Rust, check 9 | Rust | Rust, page | page / Rust, check 9 | kept step / Rust, check 9 | events a second, page |");
+    println!("| machines | events | page | snapshot step | snapshot check | Rust, check 9 | Rust | Rust, page | page / Rust, check 9 | snapshot step / Rust, check 9 | events a second, page |");
     println!("|---|---|---|---|---|---|---|---|---|---|---|");
     for &(machines, count) in sizes {
         row(machines, count);

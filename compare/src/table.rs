@@ -9,13 +9,13 @@ pub const MACHINES: usize = 16;
 pub const ENTRIES: usize = 64;
 pub const MESSAGES: usize = 128;
 
-/// The bytes of one element of a kept table.
+/// The bytes of one element of a snapshot.
 pub const TERM_BYTES: usize = 18;
 pub const JOB_BYTES: usize = 13;
 pub const MACHINE_BYTES: usize = 7;
 pub const MESSAGE_BYTES: usize = 14;
 
-/// Where each region of a kept table starts, after the two counts.
+/// Where each region of a snapshot starts, after the two counts.
 pub const TERMS_AT: usize = 2;
 pub const JOBS_AT: usize = TERMS_AT + ENTRIES * TERM_BYTES;
 pub const MACHINES_AT: usize = JOBS_AT + ENTRIES * JOB_BYTES;
@@ -23,7 +23,7 @@ pub const TOLD_AT: usize = MACHINES_AT + MACHINES * MACHINE_BYTES;
 pub const POOLS_AT: usize = TOLD_AT + MACHINES * MACHINES;
 pub const IN_FLIGHT_AT: usize = POOLS_AT + MACHINES * ENTRIES;
 pub const MESSAGES_AT: usize = IN_FLIGHT_AT + 1;
-/// The length of a kept table.
+/// The length of a snapshot.
 pub const BYTES: usize = MESSAGES_AT + MESSAGES * MESSAGE_BYTES;
 
 /// The state of a job.
@@ -216,7 +216,7 @@ impl Table {
     }
 }
 
-/// Takes bytes and little-endian words off the front of a kept table, which is long enough for all.
+/// Takes bytes and little-endian words off the front of a snapshot, which is long enough for all.
 struct Reader<'a>(&'a [u8]);
 
 impl Reader<'_> {
@@ -300,7 +300,7 @@ impl Writer<'_> {
 }
 
 impl Table {
-    /// The table that a kept table's bytes hold; None where they hold none.
+    /// The table that a snapshot's bytes hold; None where they hold none.
     pub fn from_bytes(bytes: &[u8]) -> Option<Table> {
         if bytes.len() != BYTES {
             return None;

@@ -133,7 +133,7 @@ fn one_table(library: &mut Library, input: &[u8]) {
     Kept { bytes, table: None }.step(library, event);
 }
 
-/// A kept table, and the same for the second implementation where it was read and passes check 9.
+/// A snapshot, and the same for the second implementation where it was read and passes check 9.
 struct Kept {
     bytes: Vec<u8>,
     table: Option<Table>,

@@ -16,13 +16,14 @@ use Rattle.lists.proofs.Scans.{all-at}
 use Rattle.lists.proofs.Count.{least-at, least-before}
 use Rattle.isin.specs.Isin.{verdictOf}
 use Rattle.pricer.specs.Range.{inRange}
-use Rattle.term.specs.Term.{termOf, termNumber}
-use Rattle.term.proofs.Ranged.{read-in-range}
-use Rattle.term.specs.declared.Reading.{Reading}
-use Rattle.term.specs.declared.Reading.the-variants.{Faulty, Valid}
-use Rattle.book.specs.Book.{machinesOf, entriesOf, sizesInRange, identifierAt, termAt, repeated, faultAt, lowestFaulty, lowestFault, bookVerdict}
+use Rattle.book_term.specs.Term.{termOf, termNumber}
+use Rattle.book_term.proofs.Ranged.{read-in-range}
+use Rattle.book_term.specs.declared.Reading.{Reading}
+use Rattle.book_term.specs.declared.Reading.the-variants.{Faulty, Valid}
+use Rattle.book.specs.Book.{rawMachineCount, rawEntryCount, sizesInRange, identifierAt, termAt, repeated, faultAt, lowestFaulty, lowestFault}
+use Rattle.book.specs.Book.{bookVerdict}
 use Rattle.pricer.specs.Bonds.{noBond}
-use Rattle.book.specs.Parts.{IsSize, sizeAt, entryCount, identifierOf, identifierNumber, bondIn, bondAt, bondOf}
+use Rattle.book.specs.Parts.{IsSize, sizeAt, entryCount, identifierOf, identifierNumber, bondIn, termBondAt, bondOf}
 use Rattle.book.proofs.Rests.{same-itself}
 use Rattle.book.proofs.Faults.{isFaulty, differs}
 
@@ -30,8 +31,8 @@ use Rattle.book.proofs.Faults.{isFaulty, differs}
 
 pub record Sizes (machines entries : ℕ) : Type 0 where
   pub some : 2 ≤ machines
-  pub machines-most : machines ≤ 16
-  pub entries-most : entries ≤ 64
+  pub machine-count-most : machines ≤ 16
+  pub entry-count-most : entries ≤ 64
 
 pub sizes : (m n : ℕ) → sizesInRange m n ≡ true → Sizes m n
 unfolding sizesInRange
@@ -39,8 +40,8 @@ sizes m n e =
     let a : leb 2 m && leb m 16 ≡ true = and-left (leb 2 m && leb m 16) (leb n 64) e in
     record {
       some = leb-true 2 m (and-left (leb 2 m) (leb m 16) a);
-      machines-most = leb-true m 16 (and-right (leb 2 m) (leb m 16) a);
-      entries-most = leb-true n 64 (and-right (leb 2 m && leb m 16) (leb n 64) e);
+      machine-count-most = leb-true m 16 (and-right (leb 2 m) (leb m 16) a);
+      entry-count-most = leb-true n 64 (and-right (leb 2 m && leb m 16) (leb n 64) e);
     }
 
 -- ---- a choice that is 0 did not take an arm that is not
@@ -56,9 +57,9 @@ past false n a e = (refl, e)
 
 pub record Accepted (s : List ℕ) : Type 0 where
   pub four : 4 ≤ length s
-  pub sizes-in-range : Sizes (machinesOf s) (entriesOf s)
-  pub whole : length s ≡ 4 + 31 * entriesOf s
-  pub faultless : (i : ℕ) → i < entriesOf s → faultAt s (entriesOf s) i ≡ 0
+  pub sizes-in-range : Sizes (rawMachineCount s) (rawEntryCount s)
+  pub whole : length s ≡ 4 + 31 * rawEntryCount s
+  pub faultless : (i : ℕ) → i < rawEntryCount s → faultAt s (rawEntryCount s) i ≡ 0
 
 no-fault : (s : List ℕ) (n : ℕ) → lowestFault s n ≡ 0 → (i : ℕ) → i < n → faultAt s n i ≡ 0
 unfolding lowestFault lowestFaulty
@@ -78,13 +79,13 @@ pub accepted : (s : List ℕ) → bookVerdict s ≡ 0 → Accepted s
 unfolding bookVerdict
 accepted s e =
     let a = past (ltb (length s) 4) 0 _ e in
-    let b = past (not (sizesInRange (machinesOf s) (entriesOf s))) 1 _ (a .1) in
-    let c = past (not (eqb (length s) (4 + 31 * entriesOf s))) 2 _ (b .1) in
+    let b = past (not (sizesInRange (rawMachineCount s) (rawEntryCount s))) 1 _ (a .1) in
+    let c = past (not (eqb (length s) (4 + 31 * rawEntryCount s))) 2 _ (b .1) in
     record {
       four = ltb-false _ _ (a .0);
       sizes-in-range = sizes _ _ (not-false _ (b .0));
       whole = eqb-true _ _ (not-false _ (c .0));
-      faultless = no-fault s (entriesOf s) (c .1);
+      faultless = no-fault s (rawEntryCount s) (c .1);
     }
 
 -- ---- an entry without fault
@@ -92,8 +93,8 @@ accepted s e =
 pub record Entry (s : List ℕ) (n i : ℕ) : Type 0 where
   pub passes : verdictOf (identifierAt s i) ≡ 0
   pub new : (k : ℕ) → k < i → identifierAt s k ≢ identifierAt s i
-  pub read : termOf (termAt s n i) ≡ Valid (bondAt s n i)
-  pub in-range : inRange (bondAt s n i) ≡ true
+  pub read : termOf (termAt s n i) ≡ Valid (termBondAt s n i)
+  pub in-range : inRange (termBondAt s n i) ≡ true
 
 -- what reads to no fault is the bond of the entry
 valid : (r : Reading) → termNumber r ≡ 0 → r ≡ Valid (bondIn r)
@@ -101,7 +102,7 @@ valid Faulty e = absurd (no 6 e)
 valid (Valid b) e = refl
 
 entry-of : (s : List ℕ) (n i : ℕ) → faultAt s n i ≡ 0 → Entry s n i
-unfolding faultAt repeated bondAt
+unfolding faultAt repeated termBondAt
 entry-of s n i e =
     let v = verdictOf (identifierAt s i) in
     let a : eqb v 0 ≡ true = byBool (eqb v 0) (λ b. b) (λ b. let z : v ≡ 0 = rw b at e in absurd (eqb-false v 0 b z)) in
@@ -118,8 +119,8 @@ entry-of s n i e =
       in-range = read-in-range (termAt s n i) _ r;
     }
 
-pub entry : (s : List ℕ) → Accepted s → (i : ℕ) → i < entriesOf s → Entry s (entriesOf s) i
-entry s a i h = entry-of s (entriesOf s) i (a .faultless i h)
+pub entry : (s : List ℕ) → Accepted s → (i : ℕ) → i < rawEntryCount s → Entry s (rawEntryCount s) i
+entry s a i h = entry-of s (rawEntryCount s) i (a .faultless i h)
 
 -- ---- by the counts that the reader hands out
 
@@ -145,13 +146,13 @@ counted s i h =
     let e = has-entry s i h in
     let a = accepted s e in
     let n = accepted-size s 2 e in
-    record { whole = omega (arith, a .whole, n); most = omega (arith, a .sizes-in-range .entries-most, n) }
+    record { whole = omega (arith, a .whole, n); most = omega (arith, a .sizes-in-range .entry-count-most, n) }
 
 -- a size fits a byte
 pub size-small : (s : List ℕ) (at : ℕ) → bookVerdict s ≡ 0 → IsSize at → le16 s at < 256
 size-small s at e h =
     let z = accepted s e .sizes-in-range in
-    ⊎-elim (λ q. rw q (omega (arith, z .machines-most))) (λ q. rw q (omega (arith, z .entries-most))) h
+    ⊎-elim (λ q. rw q (omega (arith, z .machine-count-most))) (λ q. rw q (omega (arith, z .entry-count-most))) h
 
 -- the parts of an entry below the count, and of one that is not
 module _ (s : List ℕ) (i : ℕ) where
@@ -182,12 +183,12 @@ module _ (s : List ℕ) (i : ℕ) where
   unfolding identifierNumber
   number-below h = rw (eq-eqb (bookVerdict s) 0 (has-entry s i h), lt-ltb i (entryCount s) h)
 
-  pub bond-below : i < entryCount s → bondAt s (entryCount s) i ≡ bondOf s i
+  pub bond-below : i < entryCount s → termBondAt s (entryCount s) i ≡ bondOf s i
   unfolding bondOf
   bond-below h = rw (lt-ltb i (entryCount s) h)
 
   -- with the count in a number of its own
-  pub bond-counted : (n : ℕ) → n ≡ entryCount s → i < entryCount s → bondAt s n i ≡ bondOf s i
+  pub bond-counted : (n : ℕ) → n ≡ entryCount s → i < entryCount s → termBondAt s n i ≡ bondOf s i
   bond-counted n e h = rw e (bond-below h)
 
   pub bond-past : entryCount s ≤ i → noBond ≡ bondOf s i

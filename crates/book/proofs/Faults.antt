@@ -1,4 +1,5 @@
--- Entries in the code's words: the parts of the book that it takes, what comparing two of them says, and the cases of an entry's fault. Assumes nothing.
+-- Entries in the code's words: the parts of the book that it takes, what comparing two of them says, and the cases of an entry's fault.
+-- Assumes nothing.
 use mathlib.Core.Path.{_≡_, sym, ap, _∙_}
 use mathlib.Core.Bool.{Bool, true, false, not}
 use mathlib.Core.List.{List}
@@ -11,8 +12,8 @@ use lib.ListN.{take, drop}
 use Rattle.lists.specs.Scan.{all, least}
 use Rattle.lists.proofs.Scans.{all-fail, least-found}
 use Rattle.isin.specs.Isin.{verdictOf}
-use Rattle.term.specs.Term.{termOf, termNumber}
-use Rattle.book.specs.Book.{identifierAt, termAt, same, repeated, faultAt, lowestFaulty, lowestFault}
+use Rattle.book_term.specs.Term.{termOf, termNumber}
+use Rattle.book.specs.Book.{identifierAt, termAt, sameBytes, repeated, faultAt, lowestFaulty, lowestFault}
 
 -- ---- the parts
 
@@ -41,9 +42,9 @@ is-term s n i = cut s (4 + 12 * n + 19 * i) 19
 
 -- entry k has another identifier than entry i
 abbrev pub differs : List ℕ → ℕ → ℕ → Bool
-differs s i k = not (same (identifierAt s k) (identifierAt s i))
+differs s i k = not (sameBytes (identifierAt s k) (identifierAt s i))
 
-pub compared : (s : List ℕ) (i k : ℕ) (r : Bool) → r ≡ same (identifierPart s k) (identifierPart s i) → differs s i k ≡ not r
+pub compared : (s : List ℕ) (i k : ℕ) (r : Bool) → r ≡ sameBytes (identifierPart s k) (identifierPart s i) → differs s i k ≡ not r
 compared s i k r e = rw (e, is-identifier s k, is-identifier s i)
 
 pub found : (s : List ℕ) (i k : ℕ) → k < i → differs s i k ≡ false → true ≡ repeated s i

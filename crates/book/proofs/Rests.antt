@@ -1,4 +1,4 @@
--- What `same` says of the rests of two lists, and of a list and itself. Assumes nothing.
+-- What `sameBytes` says of the rests of two lists, and of a list and itself. Assumes nothing.
 use mathlib.Core.Path.{_≡_, refl, ap, _∙_}
 use mathlib.Core.Bool.{true, false}
 use mathlib.Core.List.{List, [], _∷_}
@@ -9,32 +9,32 @@ use lib.Dec.{eqb}
 use lib.ListN.{length, drop, getD}
 use lib.Seq.{drop-cons}
 use Rattle.lists.proofs.Cases.{and-false}
-use Rattle.book.specs.Book.{same}
+use Rattle.book.specs.Book.{sameBytes}
 
-pub differ-in-length : (a b : List ℕ) → (length a ≡ length b → ⊥) → same a b ≡ false
-unfolding same
+pub differ-in-length : (a b : List ℕ) → (length a ≡ length b → ⊥) → sameBytes a b ≡ false
+unfolding sameBytes
 differ-in-length [] [] h = absurd (h refl)
 differ-in-length [] (y ∷ ys) h = refl
 differ-in-length (x ∷ xs) [] h = refl
 differ-in-length (x ∷ xs) (y ∷ ys) h = rw (differ-in-length xs ys (λ e. h (ap suc e))) (and-false (eqb x y))
 
-pub both-end : same [] [] ≡ true
-unfolding same
+pub both-end : sameBytes [] [] ≡ true
+unfolding sameBytes
 both-end = refl
 
 module _ (a b : List ℕ) (i : ℕ) (h : i < length a) (k : i < length b) where
-  cut : same (drop i a) (drop i b) ≡ same (getD a i 0 ∷ drop (i + 1) a) (getD b i 0 ∷ drop (i + 1) b)
+  cut : sameBytes (drop i a) (drop i b) ≡ sameBytes (getD a i 0 ∷ drop (i + 1) a) (getD b i 0 ∷ drop (i + 1) b)
   cut = rw (add-one, drop-cons a i 0, drop-cons b i 0)
 
-  pub agree : getD a i 0 ≡ getD b i 0 → same (drop i a) (drop i b) ≡ same (drop (i + 1) a) (drop (i + 1) b)
-  unfolding same
+  pub agree : getD a i 0 ≡ getD b i 0 → sameBytes (drop i a) (drop i b) ≡ sameBytes (drop (i + 1) a) (drop (i + 1) b)
+  unfolding sameBytes
   agree e = cut ∙ simp (eq-eqb _ _ e)
 
-  pub differ : (getD a i 0 ≡ getD b i 0 → ⊥) → same (drop i a) (drop i b) ≡ false
-  unfolding same
+  pub differ : (getD a i 0 ≡ getD b i 0 → ⊥) → sameBytes (drop i a) (drop i b) ≡ false
+  unfolding sameBytes
   differ e = cut ∙ simp (ne-eqb _ _ e)
 
-pub same-itself : (a : List ℕ) → same a a ≡ true
-unfolding same
+pub same-itself : (a : List ℕ) → sameBytes a a ≡ true
+unfolding sameBytes
 same-itself [] = refl
 same-itself (x ∷ xs) = rw (eq-eqb x x refl) (same-itself xs)

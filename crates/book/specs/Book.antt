@@ -7,15 +7,15 @@ use lib.ListN.{length, take, drop}
 use Rattle.lists.specs.Scan.{all, least}
 use Rattle.endian.specs.Endian.{le16}
 use Rattle.isin.specs.Isin.{verdictOf}
-use Rattle.term.specs.Term.{termOf, termNumber}
+use Rattle.book_term.specs.Term.{termOf, termNumber}
 
 -- "Bytes 0 and 1: machine count .. little-endian"
-abbrev pub machinesOf : List ℕ → ℕ
-machinesOf s = le16 s 0
+abbrev pub rawMachineCount : List ℕ → ℕ
+rawMachineCount s = le16 s 0
 
 -- "Bytes 2 and 3: entry count n"
-abbrev pub entriesOf : List ℕ → ℕ
-entriesOf s = le16 s 2
+abbrev pub rawEntryCount : List ℕ → ℕ
+rawEntryCount s = le16 s 2
 
 -- "machine count, 2 to 16"; "entry count n, 0 to 64"
 unfoldable pub sizesInRange : ℕ → ℕ → Bool
@@ -30,15 +30,15 @@ unfoldable pub termAt : List ℕ → ℕ → ℕ → List ℕ
 termAt s n i = take 19 (drop (4 + 12 * n + 19 * i) s)
 
 -- the same bytes
-unfoldable pub same : List ℕ → List ℕ → Bool
-same [] [] = true
-same [] (b ∷ ys) = false
-same (a ∷ xs) [] = false
-same (a ∷ xs) (b ∷ ys) = eqb a b && same xs ys
+unfoldable pub sameBytes : List ℕ → List ℕ → Bool
+sameBytes [] [] = true
+sameBytes [] (b ∷ ys) = false
+sameBytes (a ∷ xs) [] = false
+sameBytes (a ∷ xs) (b ∷ ys) = eqb a b && sameBytes xs ys
 
 -- 6: "equals an earlier identifier"
 unfoldable pub repeated : List ℕ → ℕ → Bool
-repeated s i = not (all (λ k. not (same (identifierAt s k) (identifierAt s i))) i)
+repeated s i = not (all (λ k. not (sameBytes (identifierAt s k) (identifierAt s i))) i)
 
 -- the fault of entry i of n: 4 "identifier form" and 5 "check digit" first, then 6, then 7 "term outside the rules"; or 0
 unfoldable pub faultAt : List ℕ → ℕ → ℕ → ℕ
@@ -59,6 +59,6 @@ lowestFault s n = cond (ltb (lowestFaulty s n) n) (faultAt s n (lowestFaulty s n
 unfoldable pub bookVerdict : List ℕ → ℕ
 bookVerdict s =
     cond (ltb (length s) 4) 1
-    (cond (not (sizesInRange (machinesOf s) (entriesOf s))) 2
-    (cond (not (eqb (length s) (4 + 31 * entriesOf s))) 3
-    (lowestFault s (entriesOf s))))
+    (cond (not (sizesInRange (rawMachineCount s) (rawEntryCount s))) 2
+    (cond (not (eqb (length s) (4 + 31 * rawEntryCount s))) 3
+    (lowestFault s (rawEntryCount s))))

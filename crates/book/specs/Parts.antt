@@ -8,9 +8,9 @@ use lib.Dec.{ltb, eqb}
 use Rattle.pricer.specs.Bonds.{noBond}
 use Rattle.pricer.specs.declared.Bond.{Bond}
 use Rattle.endian.specs.Endian.{le16}
-use Rattle.term.specs.Term.{termOf}
-use Rattle.term.specs.declared.Reading.{Reading}
-use Rattle.term.specs.declared.Reading.the-variants.{Faulty, Valid}
+use Rattle.book_term.specs.Term.{termOf}
+use Rattle.book_term.specs.declared.Reading.{Reading}
+use Rattle.book_term.specs.declared.Reading.the-variants.{Faulty, Valid}
 use Rattle.book.specs.Book.{identifierAt, termAt, bookVerdict}
 
 -- the two sizes stand at bytes 0 and 2
@@ -45,9 +45,9 @@ bondIn Faulty = noBond
 bondIn (Valid b) = b
 
 -- "Once read, a bond's terms are one of two cases": the bond of entry i of n
-unfoldable pub bondAt : List ℕ → ℕ → ℕ → Bond
-bondAt s n i = bondIn (termOf (termAt s n i))
+unfoldable pub termBondAt : List ℕ → ℕ → ℕ → Bond
+termBondAt s n i = bondIn (termOf (termAt s n i))
 
 -- that of an accepted book, for an entry number below n
 unfoldable pub bondOf : List ℕ → ℕ → Bond
-bondOf s i = cond (ltb i (entryCount s)) (bondAt s (entryCount s) i) noBond
+bondOf s i = cond (ltb i (entryCount s)) (termBondAt s (entryCount s) i) noBond

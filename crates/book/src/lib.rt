@@ -1,16 +1,16 @@
 // The book: its sizes, its lowest faulty entry, and the parts of an entry.
+use book_term::Reading;
 use pricer::Bond;
-use term::Reading;
 ghost use mathlib.Core.Path.{_≡_};
 ghost use mathlib.Core.List.{[]};
 ghost use Prim.Native.Nat.{_+_, _*_, _≤_, _<_};
 ghost use lib.ListN.{length};
-ghost use Rattle.book.specs.Book.{identifierAt, same, repeated, faultAt, lowestFault, sizesInRange, bookVerdict};
-ghost use Rattle.book.specs.Parts.{IsSize, sizeAt, bondIn, bondAt, machineCount, entryCount, identifierOf, identifierNumber, bondOf};
+ghost use Rattle.book.specs.Book.{identifierAt, sameBytes, repeated, faultAt, lowestFault, sizesInRange, bookVerdict};
+ghost use Rattle.book.specs.Parts.{IsSize, sizeAt, bondIn, termBondAt, machineCount, entryCount, identifierOf, identifierNumber, bondOf};
 
 // Whether a and b hold the same bytes.
 fn equal(a: &[u8], b: &[u8]) -> bool
-    ensures { λ r. ⌜ r ≡ same (now (a .entry)) (now (b .entry)) ⌝ }
+    ensures { λ r. ⌜ r ≡ sameBytes (now (a .entry)) (now (b .entry)) ⌝ }
 {
     if a.len() != b.len() {
         return false;
@@ -62,7 +62,7 @@ fn fault(s: &[u8], n: usize, i: usize) -> u8
     }
     let b = 4 + 12 * n + 19 * i;
     let f = b + 19;
-    let t = term::read(&s[b..f]);
+    let t = book_term::read(&s[b..f]);
     match t {
         Reading::Faulty => 7,
         Reading::Valid(_) => 0,
@@ -153,7 +153,8 @@ fn empty_part(s: &[u8]) -> &[u8]
     &s[0..0]
 }
 
-// The identifier of entry i, as that part of the book, and 0; the empty part with the number of a faulty book, and with 11 for an entry number of n or more.
+// The identifier of entry i, as that part of the book, and 0;
+// the empty part with the number of a faulty book, and with 11 for an entry number of n or more.
 pub fn identifier<'a>(s: &'a [u8], i: usize, number: &mut u8) -> &'a [u8]
     ensures { λ r. ⌜ now r ≡ identifierOf (now (s .entry)) i ⌝ }
     ensures { λ _. ⌜ now (number .exit) ≡ identifierNumber (now (s .entry)) i ⌝ }
@@ -183,14 +184,14 @@ fn bond_in(r: Reading) -> Bond
 }
 
 // The bond of entry i of n, of a book that is as long as n entries are.
-pub fn bond_at(s: &[u8], n: usize, i: usize) -> Bond
+pub fn term_bond_at(s: &[u8], n: usize, i: usize) -> Bond
     requires { ⌜ length (now s) ≡ 4 + 31 * n ⌝ }
     requires { ⌜ (i < n) × (n < 65) ⌝ }
-    ensures { λ r. ⌜ r ≡ bondAt (now (s .entry)) n i ⌝ }
+    ensures { λ r. ⌜ r ≡ termBondAt (now (s .entry)) n i ⌝ }
 {
     let b = 4 + 12 * n + 19 * i;
     let f = b + 19;
-    bond_in(term::read(&s[b..f]))
+    bond_in(book_term::read(&s[b..f]))
 }
 
 // The bond of entry i; no bond for a faulty book or an entry number of n or more.
@@ -199,7 +200,7 @@ pub fn bond(s: &[u8], i: usize) -> Bond
 {
     let n = entries(s) as usize;
     if i < n {
-        bond_at(s, n, i)
+        term_bond_at(s, n, i)
     } else {
         bond_in(Reading::Faulty)
     }

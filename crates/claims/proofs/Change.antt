@@ -1,4 +1,5 @@
--- How one event changes one job: the five ways, told by whether the event admits the job, delivers a RESULT for it, or is a notice to the root that finds it.
+-- How one event changes one job: the five ways, told by whether the event admits the job, delivers a RESULT for it,
+-- or is a notice to the root that finds it.
 -- Assumes nothing.
 use Prim.Native.Nat.{ℕ, _+_, _≤_, _<_}
 use mathlib.Core.Path.{_≡_, ap}
@@ -10,10 +11,10 @@ use Rattle.table.specs.declared.Job.{Job}
 use Rattle.table.specs.declared.Message.{Message}
 use Rattle.table.specs.declared.Table.{Table}
 use Rattle.table.specs.Views.{noJob, jobAt, withJob}
-use Rattle.table.specs.Messages.{pull, send}
+use Rattle.table.specs.Messages.{removeAt, send}
 use Rattle.table.specs.Parts.{opened, priced, NOT-ADMITTED, OPEN, PRICED}
 use Rattle.table.proofs.Views.{Sized, job-same, job-other, job-messages}
-use Rattle.invariant.proofs.Flight.{view-send}
+use Rattle.theorem_invariant.proofs.Flight.{view-send}
 
 -- w shows what v showed, but for its place; a priced job is untouched
 pub record Same (v w : Job) : Type 0 where
@@ -23,7 +24,8 @@ pub record Same (v w : Job) : Type 0 where
   pub stays : v .state ≡ PRICED → w ≡ v
 
 pub same-job : (v w : Job) → w ≡ v → Same v w
-same-job v w e = record { state = ap (λ (u : Job). u .state) e; price = ap (λ (u : Job). u .price) e; replica = ap (λ (u : Job). u .replica) e; stays = λ d. e }
+same-job v w e =
+    record { state = ap (λ (u : Job). u .state) e; price = ap (λ (u : Job). u .price) e; replica = ap (λ (u : Job). u .replica) e; stays = λ d. e }
 
 -- job v becomes w: a, d and f say whether the event admits it, delivers a RESULT for it, or finds it; p is that RESULT's price
 pub data Change (a d f : Bool) (p : ℕ) (v w : Job) : Type 0 where
@@ -38,9 +40,9 @@ pub data Change (a d f : Bool) (p : ℕ) (v w : Job) : Type 0 where
 pub job-send : (t : Table) (x : Message) (j : ℕ) → jobAt (send t x) j ≡ jobAt t j
 job-send t x j = view-send (λ u. jobAt u j) t x (λ n l. job-messages t n l j)
 
-pub job-pull : (t : Table) (k j : ℕ) → jobAt (pull t k) j ≡ jobAt t j
-unfolding pull
-job-pull t k j = job-messages t _ _ j
+pub job-removeAt : (t : Table) (k j : ℕ) → jobAt (removeAt t k) j ≡ jobAt t j
+unfolding removeAt
+job-removeAt t k j = job-messages t _ _ j
 
 -- job i is now w, which differs from what it was by its place alone
 pub same-with : (t : Table) → Sized t → (i : ℕ) (w : Job) → i < 64 → Same (jobAt t i) w → (j : ℕ) → Same (jobAt t j) (jobAt (withJob t i w) j)

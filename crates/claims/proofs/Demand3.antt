@@ -8,10 +8,10 @@ use Rattle.book.specs.Book.{bookVerdict}
 use Rattle.table.specs.declared.Table.{Table}
 use Rattle.table.specs.Parts.{PRICED}
 use Rattle.table.specs.Views.{jobAt}
-use Rattle.opening.specs.Opening.{openOf}
-use Rattle.preservation.proofs.Ok.{Valid}
-use Rattle.invariant.proofs.State.{Whole}
-use Rattle.invariant.proofs.Keeps.{whole-run}
+use Rattle.table_opening.specs.Opening.{openOf}
+use Rattle.protocol_preservation.proofs.Ok.{Valid}
+use Rattle.theorem_invariant.proofs.State.{Invariant}
+use Rattle.theorem_invariant.proofs.Keeps.{invariant-run}
 use Rattle.dispatcher.specs.Step.{runOf, answersOf}
 use Rattle.dispatcher.proofs.Runs.{run-append, answers-length}
 use Rattle.claims.specs.Claims.{Demand3, RunsAgree}
@@ -21,13 +21,14 @@ use Rattle.claims.proofs.Shown.{Start, shown}
 use Rattle.claims.proofs.Further.{job-64, further}
 use Rattle.claims.proofs.Start.{start}
 
-valid : (t : Table) → Whole t → Valid t
+valid : (t : Table) → Invariant t → Valid t
 valid t w = record { sized = w .sized; ok = w .ok }
 
 -- a job that is priced after some events is untouched by later ones
-stays : (t : Table) (es later : List (List ℕ)) (j : ℕ) → Whole t → jobAt (runOf t es) j .state ≡ PRICED → jobAt (runOf t (es ++ later)) j ≡ jobAt (runOf t es) j
+stays : (t : Table) (es later : List (List ℕ)) (j : ℕ) → Invariant t → jobAt (runOf t es) j .state ≡ PRICED
+    → jobAt (runOf t (es ++ later)) j ≡ jobAt (runOf t es) j
 stays t es later j w e =
-    let x = whole-run t es w in
+    let x = invariant-run t es w in
     rw (run-append t es later) (settled j (job-64 (runOf t es) j x (λ z. omega arith)) (runOf t es) later x e .job)
 
 pub demand-3 : (book : List ℕ) → bookVerdict book ≡ 0 → (events : List (List ℕ))
@@ -37,11 +38,11 @@ demand-3 book accepted events =
     let s : Start book t = start book accepted in
     record {
       each = answers-length t events;
-      answers = λ front e back split. rw split (answered t (valid t (s .whole)) front e back);
+      answers = λ front e back split. rw split (answered t (valid t (s .invariant)) front e back);
       returned = refl;
       shown = λ j l. shown book t events s j l;
-      stays = λ later j e. stays t events later j (s .whole) e;
-      further = further (runOf t events) (whole-run t events (s .whole));
+      stays = λ later j e. stays t events later j (s .invariant) e;
+      further = further (runOf t events) (invariant-run t events (s .invariant));
     }
 
 -- two runs over one book give a bond that both have priced the same 64 bits: those of one machine

@@ -14,10 +14,10 @@ use Rattle.table.specs.declared.Job.{Job}
 use Rattle.table.specs.Parts.{NOT-ADMITTED, OPEN, PRICED}
 use Rattle.table.specs.declared.Table.{Table}
 use Rattle.table.specs.Views.{jobAt}
-use Rattle.invariant.proofs.State.{Whole}
+use Rattle.theorem_invariant.proofs.State.{Invariant}
 use Rattle.dispatcher.specs.Step.{stepOf, runOf, answersOf, isFurther}
-use Rattle.drain.proofs.Reach.{Accepted}
-use Rattle.drain.proofs.Drain.{drain}
+use Rattle.theorem_drain.proofs.Reach.{Accepted}
+use Rattle.theorem_drain.proofs.Drain.{drain}
 use Rattle.claims.specs.History.{countOf, admits, resultsOf, stateAfter, allFurther}
 use Rattle.claims.specs.Claims.{Further}
 use Rattle.claims.proofs.Change.{job-past}
@@ -42,13 +42,13 @@ admitted-after [] = λ (e : _≡_ {A = ℕ} 1 0). omega arith
 admitted-after (p ∷ ps) = λ (e : _≡_ {A = ℕ} 2 0). omega arith
 
 -- only the jobs of the array are admitted
-pub job-64 : (t : Table) (j : ℕ) → Whole t → jobAt t j .state ≢ NOT-ADMITTED → j < 64
+pub job-64 : (t : Table) (j : ℕ) → Invariant t → jobAt t j .state ≢ NOT-ADMITTED → j < 64
 job-64 t j w n =
     byBool (ltb j 64)
     (λ e. ltb-true j 64 e)
     (λ e. absurd (n (ap (λ (v : Job). v .state) (job-past t (w .sized) j (ltb-false j 64 e)))))
 
-stays-admitted : (t : Table) (es : List (List ℕ)) (j : ℕ) → Whole t → jobAt t j .state ≢ NOT-ADMITTED → jobAt (runOf t es) j .state ≢ NOT-ADMITTED
+stays-admitted : (t : Table) (es : List (List ℕ)) (j : ℕ) → Invariant t → jobAt t j .state ≢ NOT-ADMITTED → jobAt (runOf t es) j .state ≢ NOT-ADMITTED
 stays-admitted t es j w n =
     let l = job-64 t j w n in
     byEq (jobAt t j .state) OPEN
@@ -60,7 +60,7 @@ stays-admitted t es j w n =
     let two : jobAt t j .state ≡ PRICED = omega (arith, n, e, w .facts .job j l .state) in
     rw (settled j l t es w two .job) n)
 
-pub further : (t : Table) → Whole t → Further t
+pub further : (t : Table) → Invariant t → Further t
 further t w =
     let r = drain t w in
     record {
@@ -70,5 +70,5 @@ further t w =
       only = all-further t (r .events) (r .accepted);
       priced = λ j n.
           let l = job-64 t j w n in
-          omega (arith, stays-admitted t (r .events) j w n, r .there .shut j l, r .there .whole .facts .job j l .state);
+          omega (arith, stays-admitted t (r .events) j w n, r .there .none-open j l, r .there .invariant .facts .job j l .state);
     }

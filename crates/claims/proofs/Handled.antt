@@ -12,27 +12,27 @@ use Rattle.table.specs.declared.Job.{Job}
 use Rattle.table.specs.declared.Message.{Message}
 use Rattle.table.specs.declared.Table.{Table}
 use Rattle.table.specs.Views.{jobAt, toldAt, messageAt, withJob}
-use Rattle.table.specs.Messages.{pull}
+use Rattle.table.specs.Messages.{removeAt}
 use Rattle.table.specs.Parts.{moved, placed, priced, FISH, REQ, AUTH, DENIED, OBSOLETE, SCHEDULE, ACK, NOWORK, RESULT, NOT-ADMITTED, OPEN, PRICED}
-use Rattle.table.proofs.Views.{job-same, job-other, job-node, job-pool}
-use Rattle.victim_handlers.specs.VictimHandlers.{onFish, onAuth, onDenied, onObsolete}
-use Rattle.thief_handlers.specs.ThiefHandlers.{onSchedule, onNoWork}
-use Rattle.root_handlers.specs.RootHandlers.{reply, onReq, onAck, onResult}
-use Rattle.handlers.specs.Handlers.{handle}
-use Rattle.events.specs.Events.{delivered}
-use Rattle.invariant.proofs.State.{Known, Hand, Whole}
-use Rattle.invariant.proofs.Hand.{hand}
-use Rattle.invariant.proofs.Flight.{every-taken}
-use Rattle.handlers.proofs.Cases.{by-kind}
-use Rattle.preservation.proofs.Closed.{Local, closed-fish, closed-auth, closed-denied, closed-obsolete, closed-schedule, closed-nowork}
-use Rattle.claims.proofs.Change.{Same, same-job, Change, job-send, job-pull, same-with}
+use Rattle.table.proofs.Views.{job-same, job-other, job-machine, job-pool}
+use Rattle.handler_victim.specs.Victim.{onFish, onAuth, onDenied, onObsolete}
+use Rattle.handler_thief.specs.Thief.{onSchedule, onNoWork}
+use Rattle.handler_root.specs.Root.{reply, onReq, onAck, onResult}
+use Rattle.handler.specs.Handler.{handle}
+use Rattle.event_admit_deliver_die.specs.AdmitDeliverDie.{delivered}
+use Rattle.theorem_invariant.proofs.State.{Known, Received, Invariant}
+use Rattle.theorem_invariant.proofs.Received.{received}
+use Rattle.theorem_invariant.proofs.Flight.{every-taken}
+use Rattle.handler.proofs.Cases.{by-kind}
+use Rattle.protocol_preservation.proofs.Closed.{Local, closed-fish, closed-auth, closed-denied, closed-obsolete, closed-schedule, closed-nowork}
+use Rattle.claims.proofs.Change.{Same, same-job, Change, job-send, job-removeAt, same-with}
 use Rattle.claims.proofs.Change.Change.{pricing, late, other}
 
 -- ---- the handlers that write no job
 
 unwritten : (j : ℕ) (v : Job) → Local (λ n u. jobAt u j ≡ v)
 unwritten j v = record {
-  node = λ n t m w e p. job-node t m w j ∙ p;
+  machine = λ n t m w e p. job-machine t m w j ∙ p;
   pool = λ n t m i r p. job-pool t m i r j ∙ p;
   send = λ t x p. job-send t x j ∙ p;
   less = λ t p. p;
@@ -53,7 +53,7 @@ same-placed : (v : Job) (a : ℕ) → v .state ≢ PRICED → Same v (placed v a
 unfolding placed
 same-placed v a n = record { state = refl; price = refl; replica = refl; stays = λ e. absurd (n e) }
 
-module _ (s : Table) (x : Message) (h : Hand s x) (cap : x .replica ≤ jobAt s (x .job) .replica) (j : ℕ) where
+module _ (s : Table) (x : Message) (h : Received s x) (cap : x .replica ≤ jobAt s (x .job) .replica) (j : ℕ) where
   abbrev v : Job
   v = jobAt s (x .job)
 
@@ -67,7 +67,8 @@ module _ (s : Table) (x : Message) (h : Hand s x) (cap : x .replica ≤ jobAt s 
       (λ b.
       let u = withJob s (x .job) (moved v (x .from) (x .thief)) in
       rw (a, b, onReq) (rw (job-reply u x AUTH j)
-      (same-with s (h .sized) (x .job) (moved v (x .from) (x .thief)) (h .message .job) (same-moved v (x .from) (x .thief) (eqb-false (v .state) PRICED (or-left-false (eqb (v .state) PRICED) (not (eqb (v .replica) (x .replica))) a))) j))))
+      (same-with s (h .sized) (x .job) (moved v (x .from) (x .thief)) (h .message .job) (same-moved v (x .from) (x .thief)
+      (eqb-false (v .state) PRICED (or-left-false (eqb (v .state) PRICED) (not (eqb (v .replica) (x .replica))) a))) j))))
 
   same-ack : Same (jobAt s j) (jobAt (onAck s x) j)
   unfolding onAck
@@ -107,7 +108,8 @@ module _ (s : Table) (x : Message) (h : Hand s x) (cap : x .replica ≤ jobAt s 
       let d : eqb (x .kind) RESULT && eqb (x .job) j ≡ true = rw (kb, eq-eqb (x .job) j e) refl in
       byBool (eqb (v .state) OPEN)
       (λ a. rw (a, onResult) (pricing refl d refl (ap (λ (i : ℕ). jobAt s i .state) (sym e) ∙ eqb-true (v .state) OPEN a)
-      (ap (λ (i : ℕ). jobAt (withJob s (x .job) (priced v (x .price))) i) (sym e) ∙ job-same s (h .sized) (x .job) (priced v (x .price)) (h .message .job)
+      (ap (λ (i : ℕ). jobAt (withJob s (x .job) (priced v (x .price))) i) (sym e)
+      ∙ job-same s (h .sized) (x .job) (priced v (x .price)) (h .message .job)
       ∙ ap (λ (i : ℕ). priced (jobAt s i) (x .price)) e)))
       (λ a.
       let two : v .state ≡ PRICED = omega (arith, admitted k, eqb-false (v .state) OPEN a, h .facts .job (x .job) (h .message .job) .state) in
@@ -131,10 +133,11 @@ module _ (s : Table) (x : Message) (h : Hand s x) (cap : x .replica ≤ jobAt s 
       after-result
 
 -- Deliver takes the message in slot k off
-pub change-delivered : (t : Table) (k j : ℕ) → Whole t → k < t .«in_flight»
+pub change-delivered : (t : Table) (k j : ℕ) → Invariant t → k < t .«in_flight»
     → Change false (eqb (messageAt t k .kind) RESULT && eqb (messageAt t k .job) j) false (messageAt t k .price) (jobAt t j) (jobAt (delivered t k) j)
 unfolding delivered
 change-delivered t k j w l =
     let x = messageAt t k in
-    let cap : x .replica ≤ jobAt (pull t k) (x .job) .replica = rw (job-pull t k (x .job)) (every-taken t k (w .sized) l (Known t) (w .trip .known) .0 .cap) in
-    rw (job-pull t k j) at (after-handle (pull t k) x (hand t k w l) cap j)
+    let cap : x .replica ≤ jobAt (removeAt t k) (x .job) .replica =
+    rw (job-removeAt t k (x .job)) (every-taken t k (w .sized) l (Known t) (w .transfer .known) .0 .cap) in
+    rw (job-removeAt t k j) at (after-handle (removeAt t k) x (received t k w l) cap j)

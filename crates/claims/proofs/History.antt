@@ -11,12 +11,12 @@ use Rattle.table.specs.declared.Job.{Job}
 use Rattle.table.specs.declared.Table.{Table}
 use Rattle.table.specs.Views.{jobAt}
 use Rattle.table.specs.Parts.{opened, priced, NOT-ADMITTED, OPEN, PRICED}
-use Rattle.invariant.proofs.State.{Whole}
+use Rattle.theorem_invariant.proofs.State.{Invariant}
 use Rattle.dispatcher.specs.Step.{stepOf, runOf}
 use Rattle.claims.specs.History.{countOf, admits, finds, delivers, takenOff, resultsOf, stateAfter}
 use Rattle.dispatcher.proofs.Runs.{run-more}
 use Rattle.claims.proofs.Runs.{count-more, count-none, results-yes, results-no}
-use Rattle.invariant.proofs.Keeps.{whole-step}
+use Rattle.theorem_invariant.proofs.Keeps.{invariant-step}
 use Rattle.claims.proofs.Change.{Change}
 use Rattle.claims.proofs.Change.Change.{admission, pricing, late, finding, other}
 use Rattle.claims.proofs.Steps.{change-step}
@@ -64,19 +64,20 @@ module _ (j : ℕ) (l : j < 64) where
   settled-one a d f p v w (finding x y z s e) h = absurd (omega arith)
   settled-one a d f p v w (other x y z s) h = (s .stays h, x, z)
 
-  settled-more : (t : Table) (e : List ℕ) (es : List (List ℕ)) → (jobAt (stepOf t e .table) j ≡ jobAt t j) × (admits j t e ≡ false) × (finds j t e ≡ false) → Settled j (stepOf t e .table) es → Settled j t (e ∷ es)
+  settled-more : (t : Table) (e : List ℕ) (es : List (List ℕ)) → (jobAt (stepOf t e .table) j ≡ jobAt t j) × (admits j t e ≡ false)
+      × (finds j t e ≡ false) → Settled j (stepOf t e .table) es → Settled j t (e ∷ es)
   settled-more t e es c r = record {
     job = rw (run-more t e es) (r .job ∙ c .0);
     admitted = count-more (admits j) t e es ∙ rw (c .1, r .admitted) refl;
     found = count-more (finds j) t e es ∙ rw (c .2, r .found) refl;
   }
 
-  pub settled : (t : Table) (es : List (List ℕ)) → Whole t → jobAt t j .state ≡ PRICED → Settled j t es
+  pub settled : (t : Table) (es : List (List ℕ)) → Invariant t → jobAt t j .state ≡ PRICED → Settled j t es
   unfolding runOf
   settled t [] w h = record { job = refl; admitted = count-none (admits j) t; found = count-none (finds j) t }
   settled t (e ∷ es) w h =
       let c = settled-one _ _ _ _ _ _ (change-step t w e j l) h in
-      settled-more t e es c (settled (stepOf t e .table) es (whole-step t e w) (ap (λ (v : Job). v .state) (c .0) ∙ h))
+      settled-more t e es c (settled (stepOf t e .table) es (invariant-step t e w) (ap (λ (v : Job). v .state) (c .0) ∙ h))
 
 -- ---- a job not admitted, or open
 
@@ -105,12 +106,14 @@ shows-more j t e es n m b c d a f r =
 
 -- the first RESULT for an open job
 shows-priced : (j : ℕ) (t : Table) (e : List ℕ) (es : List (List ℕ)) → admits j t e ≡ false → delivers j t e ≡ true → finds j t e ≡ false
-    → jobAt (stepOf t e .table) j ≡ priced (jobAt t j) (takenOff t e .price) → Settled j (stepOf t e .table) es → Shows j t (e ∷ es) 1 (jobAt t j .replica)
+    → jobAt (stepOf t e .table) j ≡ priced (jobAt t j) (takenOff t e .price) → Settled j (stepOf t e .table) es
+    → Shows j t (e ∷ es) 1 (jobAt t j .replica)
 shows-priced j t e es a d f w r =
     let v = jobAt t j in
     let p = takenOff t e .price in
     let last : jobAt (runOf t (e ∷ es)) j ≡ priced v p = ap (λ (u : Table). jobAt u j) (run-more t e es) ∙ r .job ∙ w in
-    let na : 1 + countOf (admits j) t (e ∷ es) ≡ 1 = omega (arith, count-more (admits j) t e es, r .admitted, ap (λ (b : Bool). cond {A = ℕ} b 1 0) a) in
+    let na : 1 + countOf (admits j) t (e ∷ es) ≡ 1 =
+    omega (arith, count-more (admits j) t e es, r .admitted, ap (λ (b : Bool). cond {A = ℕ} b 1 0) a) in
     let nf : countOf (finds j) t (e ∷ es) ≡ 0 = omega (arith, count-more (finds j) t e es, r .found, ap (λ (b : Bool). cond {A = ℕ} b 1 0) f) in
     record {
       state = rw (last, priced-state v p, results-yes j t e es d) (sym (after-some _ p _));
@@ -122,7 +125,7 @@ shows-priced j t e es a d f w r =
 
 module _ (j : ℕ) (l : j < 64) where
   -- no event
-  open-none : (t : Table) → Whole t → jobAt t j .state ≡ OPEN → Shows j t [] 1 (jobAt t j .replica)
+  open-none : (t : Table) → Invariant t → jobAt t j .state ≡ OPEN → Shows j t [] 1 (jobAt t j .replica)
   unfolding runOf countOf resultsOf stateAfter
   open-none t w h = record {
     state = h;
@@ -132,7 +135,7 @@ module _ (j : ℕ) (l : j < 64) where
     replica = λ z. omega arith;
   }
 
-  new-none : (t : Table) → Whole t → jobAt t j .state ≡ NOT-ADMITTED → Shows j t [] 0 1
+  new-none : (t : Table) → Invariant t → jobAt t j .state ≡ NOT-ADMITTED → Shows j t [] 0 1
   unfolding runOf countOf resultsOf stateAfter
   new-none t w h = record {
     state = h;
@@ -142,7 +145,8 @@ module _ (j : ℕ) (l : j < 64) where
     replica = λ z. absurd (z h);
   }
 
-  open-more : (t : Table) (e : List ℕ) (es : List (List ℕ)) → Change (admits j t e) (delivers j t e) (finds j t e) (takenOff t e .price) (jobAt t j) (jobAt (stepOf t e .table) j)
+  open-more : (t : Table) (e : List ℕ) (es : List (List ℕ))
+      → Change (admits j t e) (delivers j t e) (finds j t e) (takenOff t e .price) (jobAt t j) (jobAt (stepOf t e .table) j)
       → jobAt t j .state ≡ OPEN
       → (jobAt (stepOf t e .table) j .state ≡ OPEN → Shows j (stepOf t e .table) es 1 (jobAt (stepOf t e .table) j .replica))
       → (jobAt (stepOf t e .table) j .state ≡ PRICED → Settled j (stepOf t e .table) es)
@@ -158,12 +162,14 @@ module _ (j : ℕ) (l : j < 64) where
   open-more t e es (other x y z s) h r q =
       shows-more j t e es 1 1 (jobAt t j .replica) (jobAt t j .replica) y (rw x refl) (rw z (omega arith)) (rw (s .replica) at (r (s .state ∙ h)))
 
-  pub open-run : (t : Table) (es : List (List ℕ)) → Whole t → jobAt t j .state ≡ OPEN → Shows j t es 1 (jobAt t j .replica)
+  pub open-run : (t : Table) (es : List (List ℕ)) → Invariant t → jobAt t j .state ≡ OPEN → Shows j t es 1 (jobAt t j .replica)
   open-run t [] w h = open-none t w h
   open-run t (e ∷ es) w h =
-      open-more t e es (change-step t w e j l) h (open-run (stepOf t e .table) es (whole-step t e w)) (settled j l (stepOf t e .table) es (whole-step t e w))
+      open-more t e es (change-step t w e j l) h (open-run (stepOf t e .table) es (invariant-step t e w))
+      (settled j l (stepOf t e .table) es (invariant-step t e w))
 
-  new-more : (t : Table) (e : List ℕ) (es : List (List ℕ)) → Change (admits j t e) (delivers j t e) (finds j t e) (takenOff t e .price) (jobAt t j) (jobAt (stepOf t e .table) j)
+  new-more : (t : Table) (e : List ℕ) (es : List (List ℕ))
+      → Change (admits j t e) (delivers j t e) (finds j t e) (takenOff t e .price) (jobAt t j) (jobAt (stepOf t e .table) j)
       → jobAt t j .state ≡ NOT-ADMITTED
       → (jobAt (stepOf t e .table) j .state ≡ NOT-ADMITTED → Shows j (stepOf t e .table) es 0 1)
       → (jobAt (stepOf t e .table) j .state ≡ OPEN → Shows j (stepOf t e .table) es 1 (jobAt (stepOf t e .table) j .replica))
@@ -176,7 +182,8 @@ module _ (j : ℕ) (l : j < 64) where
   new-more t e es (finding x y z s c) h r q = absurd (omega arith)
   new-more t e es (other x y z s) h r q = shows-more j t e es 0 0 1 1 y (rw x refl) (rw z refl) (r (s .state ∙ h))
 
-  pub new-run : (t : Table) (es : List (List ℕ)) → Whole t → jobAt t j .state ≡ NOT-ADMITTED → Shows j t es 0 1
+  pub new-run : (t : Table) (es : List (List ℕ)) → Invariant t → jobAt t j .state ≡ NOT-ADMITTED → Shows j t es 0 1
   new-run t [] w h = new-none t w h
   new-run t (e ∷ es) w h =
-      new-more t e es (change-step t w e j l) h (new-run (stepOf t e .table) es (whole-step t e w)) (open-run (stepOf t e .table) es (whole-step t e w))
+      new-more t e es (change-step t w e j l) h (new-run (stepOf t e .table) es (invariant-step t e w))
+      (open-run (stepOf t e .table) es (invariant-step t e w))

@@ -7,7 +7,7 @@ use native.Mathlib.Omega.{arith}
 use lib.ListN.{length, take, drop, getD}
 use lib.Seq.{split-at, length-take-le, ext-getD}
 use Rattle.table.specs.declared.Table.{Table}
-use Rattle.opening.specs.Opening.{openOf}
+use Rattle.table_opening.specs.Opening.{openOf}
 use Rattle.dispatcher.specs.Step.{runOf, answersOf}
 use Rattle.claims.specs.Claims.{Demand3}
 use Rattle.dispatcher.proofs.Runs.{answers-length, answer-at}

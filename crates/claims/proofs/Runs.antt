@@ -7,9 +7,9 @@ use mathlib.Core.Bool.{Bool, true, false, cond}
 use mathlib.Core.List.{List, [], _∷_, _++_}
 use lib.ListN.{length, getD}
 use Rattle.table.specs.declared.Table.{Table}
-use Rattle.preservation.proofs.Ok.{Valid}
+use Rattle.protocol_preservation.proofs.Ok.{Valid}
 use Rattle.dispatcher.specs.Step.{stepOf, runOf, answersOf}
-use Rattle.dispatcher.proofs.Kept.{valid-passes, valid-run, step-answer}
+use Rattle.dispatcher.proofs.Preserved.{valid-passes, valid-run, step-answer}
 use Rattle.dispatcher.proofs.Runs.{run-append, run-more, answer-at}
 use Rattle.dispatcher.proofs.Events.{answer-9, step-refused}
 use Rattle.claims.specs.History.{countOf, delivers, takenOff, resultsOf}
@@ -18,7 +18,8 @@ use Rattle.claims.specs.Claims.{Answered}
 step-valid : (t : Table) (e : List ℕ) → Valid t → stepOf t e .number ≢ 9
 step-valid t e v = rw (step-answer t e (valid-passes t v)) (answer-9 t e)
 
-pub answered : (t : Table) → Valid t → (front : List (List ℕ)) (e : List ℕ) (back : List (List ℕ)) → Answered t front e back (getD (answersOf t (front ++ e ∷ back)) (length front) 0)
+pub answered : (t : Table) → Valid t → (front : List (List ℕ)) (e : List ℕ) (back : List (List ℕ))
+    → Answered t front e back (getD (answersOf t (front ++ e ∷ back)) (length front) 0)
 answered t v front e back =
     let n = answer-at t front e back in
     record {
@@ -30,7 +31,8 @@ answered t v front e back =
 
 -- ---- one more event at the front
 
-pub count-more : (p : Table → List ℕ → Bool) (t : Table) (e : List ℕ) (es : List (List ℕ)) → countOf p t (e ∷ es) ≡ cond (p t e) 1 0 + countOf p (stepOf t e .table) es
+pub count-more : (p : Table → List ℕ → Bool) (t : Table) (e : List ℕ) (es : List (List ℕ))
+    → countOf p t (e ∷ es) ≡ cond (p t e) 1 0 + countOf p (stepOf t e .table) es
 unfolding countOf
 count-more p t e es = refl
 
@@ -38,10 +40,12 @@ pub count-none : (p : Table → List ℕ → Bool) (t : Table) → countOf p t [
 unfolding countOf
 count-none p t = refl
 
-pub results-yes : (j : ℕ) (t : Table) (e : List ℕ) (es : List (List ℕ)) → delivers j t e ≡ true → resultsOf j t (e ∷ es) ≡ takenOff t e .price ∷ resultsOf j (stepOf t e .table) es
+pub results-yes : (j : ℕ) (t : Table) (e : List ℕ) (es : List (List ℕ)) → delivers j t e ≡ true
+    → resultsOf j t (e ∷ es) ≡ takenOff t e .price ∷ resultsOf j (stepOf t e .table) es
 unfolding resultsOf
 results-yes j t e es d = rw d refl
 
-pub results-no : (j : ℕ) (t : Table) (e : List ℕ) (es : List (List ℕ)) → delivers j t e ≡ false → resultsOf j t (e ∷ es) ≡ resultsOf j (stepOf t e .table) es
+pub results-no : (j : ℕ) (t : Table) (e : List ℕ) (es : List (List ℕ)) → delivers j t e ≡ false
+    → resultsOf j t (e ∷ es) ≡ resultsOf j (stepOf t e .table) es
 unfolding resultsOf
 results-no j t e es d = rw d refl

@@ -13,14 +13,14 @@ use Rattle.table.specs.declared.Job.{Job}
 use Rattle.table.specs.Parts.{NOT-ADMITTED, PRICED}
 use Rattle.table.specs.declared.Table.{Table}
 use Rattle.table.specs.Views.{bondAt, jobAt}
-use Rattle.invariant.proofs.State.{Whole}
+use Rattle.theorem_invariant.proofs.State.{Invariant}
 use Rattle.dispatcher.proofs.Fixed.{bond-run}
-use Rattle.invariant.proofs.Keeps.{whole-run}
+use Rattle.theorem_invariant.proofs.Keeps.{invariant-run}
 use Rattle.dispatcher.specs.Step.{runOf}
 use Rattle.claims.specs.History.{countOf, admits, kills, serialOf}
 use Rattle.claims.specs.Claims.{Shown}
 use Rattle.claims.proofs.History.{new-run}
-use Rattle.claims.proofs.Deaths.{deaths, deaths-run, bound-deaths}
+use Rattle.claims.proofs.Deaths.{deaths, deaths-run, maxReplica-deaths}
 
 -- ---- one machine, bond after bond
 
@@ -32,31 +32,31 @@ serial-at book j l = tabulate-at (λ i. priceBits (bondOf book i)) 0 0 (entryCou
 
 -- what is asked of the table that the first event is given
 pub record Start (book : List ℕ) (t : Table) : Type 0 where
-  pub whole : Whole t
+  pub invariant : Invariant t
   pub new : (j : ℕ) → j < 64 → jobAt t j .state ≡ NOT-ADMITTED
   pub bond : (j : ℕ) → j < 64 → bondAt t j ≡ bondOf book j
   pub none : deaths t ≡ 0
-  pub entries : entryCount book ≤ 64
+  pub «entry_count» : entryCount book ≤ 64
 
 module _ (book : List ℕ) (t : Table) (es : List (List ℕ)) (s : Start book t) (j : ℕ) (entry : j < entryCount book) where
   abbrev u : Table
   u = runOf t es
 
-  w : Whole u
-  w = whole-run t es (s .whole)
+  w : Invariant u
+  w = invariant-run t es (s .invariant)
 
   l : j < 64
-  l = omega (arith, entry, s .entries)
+  l = omega (arith, entry, s .«entry_count»)
 
   right : jobAt u j .state ≡ PRICED → jobAt u j .price ≡ getD (serialOf book) j 0
   right e = w .prices .shown j l e ∙ ap priceBits (bond-run t es j ∙ s .bond j l) ∙ sym (serial-at book j entry)
 
   few : jobAt u j .replica ≤ 1 + countOf kills t es
-  few = omega (arith, w .facts .job j l .replica, bound-deaths u w, deaths-run t es (s .whole), s .none)
+  few = omega (arith, w .facts .job j l .replica, maxReplica-deaths u w, deaths-run t es (s .invariant), s .none)
 
   pub shown : Shown book t es j (jobAt u j)
   shown =
-      let r = new-run j l t es (s .whole) (s .new j l) in
+      let r = new-run j l t es (s .invariant) (s .new j l) in
       let n : 0 + countOf (admits j) t es ≡ countOf (admits j) t es = omega arith in
       record {
         state = rw n at (r .state);

@@ -15,23 +15,23 @@ use Rattle.table.specs.declared.Answer.{Answer}
 use Rattle.table.specs.Views.{jobAt, withJob}
 use Rattle.table.specs.Messages.{oldest}
 use Rattle.table.specs.Parts.{opened, accept, RESULT, OPEN}
-use Rattle.table.proofs.Views.{views, job-same, job-other, job-node}
-use Rattle.events.specs.Events.{admitted, delivered, died}
-use Rattle.steal.specs.Steal.{stolen}
-use Rattle.work.specs.Work.{started, finished}
-use Rattle.notice.specs.Notice.{lost, quieted, reissue, noticed}
-use Rattle.preservation.proofs.Sizes.{sized-quieted}
-use Rattle.invariant.proofs.State.{Whole}
-use Rattle.invariant.proofs.Frame.{job-enter}
-use Rattle.events.proofs.Views.{job-died}
-use Rattle.notice.proofs.Parts.{job-quieted}
-use Rattle.invariant.proofs.Reissued.{reissuedJob, job-reissue}
+use Rattle.table.proofs.Views.{views, job-same, job-other, job-machine}
+use Rattle.event_admit_deliver_die.specs.AdmitDeliverDie.{admitted, delivered, died}
+use Rattle.event_steal.specs.Steal.{stolen}
+use Rattle.event_start_done.specs.StartDone.{started, finished}
+use Rattle.event_notice.specs.Notice.{affected, noticeLocal, reissue, noticed}
+use Rattle.protocol_preservation.proofs.Sizes.{sized-noticeLocal}
+use Rattle.theorem_invariant.proofs.State.{Invariant}
+use Rattle.theorem_invariant.proofs.Frame.{job-enter}
+use Rattle.event_admit_deliver_die.proofs.Views.{job-died}
+use Rattle.event_notice.proofs.Parts.{job-noticeLocal}
+use Rattle.theorem_invariant.proofs.Reissued.{reissuedJob, job-reissue}
 use Rattle.dispatcher.specs.Codes.{ADMIT, STEAL, DELIVER, START, DONE, DIE, NOTICE}
 use Rattle.dispatcher.specs.Step.{codeOf, firstOf, secondOf, stepOf}
 use Rattle.claims.specs.History.{admits, delivers, finds, takenOff}
 use Rattle.table.proofs.Refusals.{refused-nonzero}
 use Rattle.dispatcher.proofs.Events.{by-cases}
-use Rattle.events.proofs.Cases.{Admitting}
+use Rattle.event_admit_deliver_die.proofs.Cases.{Admitting}
 use Rattle.claims.proofs.Change.{same-job, Change, job-send}
 use Rattle.claims.proofs.Change.Change.{admission, finding, other}
 use Rattle.claims.proofs.Handled.{change-delivered}
@@ -41,7 +41,7 @@ use Rattle.claims.proofs.Handled.{change-delivered}
 module _ (t : Table) (j : ℕ) where
   job-stolen : (a b : ℕ) → jobAt (stolen t a b) j ≡ jobAt t j
   unfolding stolen
-  job-stolen a b = job-send _ _ j ∙ job-node t a _ j
+  job-stolen a b = job-send _ _ j ∙ job-machine t a _ j
 
   job-started : (a b : ℕ) → jobAt (started t a b) j ≡ jobAt t j
   unfolding started
@@ -49,25 +49,27 @@ module _ (t : Table) (j : ℕ) where
 
   job-finished : (a : ℕ) → jobAt (finished t a) j ≡ jobAt t j
   unfolding finished
-  job-finished a = job-send _ _ j ∙ job-node t a _ j
+  job-finished a = job-send _ _ j ∙ job-machine t a _ j
 
 -- ---- those that do
 
 -- the root's part of Notice
-change-reissued : (u : Job) (b p : ℕ) → Change false false (lost u b) p u (reissuedJob u b)
+change-reissued : (u : Job) (b p : ℕ) → Change false false (affected u b) p u (reissuedJob u b)
 unfolding reissuedJob
 change-reissued u b p =
-    byBool (lost u b)
-    (λ e. rw (e, reissuedJob) (finding refl refl refl (eqb-true (u .state) OPEN (and-left (eqb (u .state) OPEN) (eqb (u .holder) b || eqb (u .moving) 1 && eqb (u .thief) b) e)) refl))
+    byBool (affected u b)
+    (λ e. rw (e, reissuedJob) (finding refl refl refl
+    (eqb-true (u .state) OPEN (and-left (eqb (u .state) OPEN) (eqb (u .holder) b || eqb (u .moving) 1 && eqb (u .thief) b) e)) refl))
     (λ e. rw (e, reissuedJob) (other refl refl refl (same-job u u refl)))
 
-module _ (t : Table) (w : Whole t) (j : ℕ) (l : j < 64) where
+module _ (t : Table) (w : Invariant t) (j : ℕ) (l : j < 64) where
   abbrev v : Job
   v = jobAt t j
 
   job-admitted : (a : ℕ) → a < 64 → a ≡ j → jobAt (admitted t a) j ≡ opened 1
   unfolding admitted
-  job-admitted a h e = job-enter (withJob t a (opened 1)) 0 a 1 j ∙ ap (λ (i : ℕ). jobAt (withJob t a (opened 1)) i) (sym e) ∙ job-same t (w .sized) a (opened 1) h
+  job-admitted a h e =
+      job-enter (withJob t a (opened 1)) 0 a 1 j ∙ ap (λ (i : ℕ). jobAt (withJob t a (opened 1)) i) (sym e) ∙ job-same t (w .sized) a (opened 1) h
 
   job-admitted-other : (a : ℕ) → a ≢ j → jobAt (admitted t a) j ≡ v
   unfolding admitted
@@ -76,22 +78,24 @@ module _ (t : Table) (w : Whole t) (j : ℕ) (l : j < 64) where
   change-admitted : (a : ℕ) (p : ℕ) → Admitting t a → Change (eqb a j) false false p v (jobAt (admitted t a) j)
   change-admitted a p c =
       byEq a j
-      (λ e. admission (eq-eqb a j e) refl refl (ap (λ (i : ℕ). jobAt t i .state) (sym e) ∙ c .new) (job-admitted a (omega (arith, c .entry, w .facts .entries-most)) e))
+      (λ e. admission (eq-eqb a j e) refl refl (ap (λ (i : ℕ). jobAt t i .state) (sym e) ∙ c .new)
+      (job-admitted a (omega (arith, c .entry, w .facts .entry-count-most)) e))
       (λ e. other (ne-eqb a j e) refl refl (same-job v _ (job-admitted-other a e)))
 
   -- what the root does with its jobs
-  change-reissue : (a b : ℕ) (p : ℕ) → Change false false (lost v b) p v (jobAt (reissue (quieted t a b) b) j)
+  change-reissue : (a b : ℕ) (p : ℕ) → Change false false (affected v b) p v (jobAt (reissue (noticeLocal t a b) b) j)
   change-reissue a b p =
-      let q = quieted t a b in
-      let new : jobAt (reissue q b) j ≡ reissuedJob v b = job-reissue q b (sized-quieted t (w .sized) a b) j l ∙ ap (λ (u : Job). reissuedJob u b) (job-quieted t a b j) in
+      let q = noticeLocal t a b in
+      let new : jobAt (reissue q b) j ≡ reissuedJob v b =
+      job-reissue q b (sized-noticeLocal t (w .sized) a b) j l ∙ ap (λ (u : Job). reissuedJob u b) (job-noticeLocal t a b j) in
       rw new (change-reissued v b p)
 
-  change-noticed : (a b : ℕ) (p : ℕ) → Change false false (eqb a 0 && lost v b) p v (jobAt (noticed t a b) j)
+  change-noticed : (a b : ℕ) (p : ℕ) → Change false false (eqb a 0 && affected v b) p v (jobAt (noticed t a b) j)
   unfolding noticed
   change-noticed a b p =
       byBool (eqb a 0)
       (λ e. rw (e, noticed) (change-reissue a b p))
-      (λ e. rw (e, noticed) (other refl refl refl (same-job v _ (job-quieted t a b j))))
+      (λ e. rw (e, noticed) (other refl refl refl (same-job v _ (job-noticeLocal t a b j))))
 
 -- ---- any event
 
@@ -107,18 +111,20 @@ is-code code m c d h n = rw (eq-eqb code m h) n
 flags : {a d f a₁ d₁ f₁ : Bool} {p : ℕ} {v w : Job} → a ≡ a₁ → d ≡ d₁ → f ≡ f₁ → Change a₁ d₁ f₁ p v w → Change a d f p v w
 flags x y z c = rw (x, y, z) c
 
-module _ (t : Table) (w : Whole t) (e : List ℕ) (j : ℕ) (l : j < 64) where
+module _ (t : Table) (w : Invariant t) (e : List ℕ) (j : ℕ) (l : j < 64) where
   abbrev Told : Answer → Type 0
   Told x =
       Change (eqb (x .number) 0 && (eqb (codeOf e) ADMIT && eqb (firstOf e) j))
       (eqb (x .number) 0 && (eqb (codeOf e) DELIVER && (eqb (takenOff t e .kind) RESULT && eqb (takenOff t e .job) j)))
-      (eqb (x .number) 0 && (eqb (codeOf e) NOTICE && (eqb (firstOf e) 0 && lost (jobAt t j) (secondOf e))))
+      (eqb (x .number) 0 && (eqb (codeOf e) NOTICE && (eqb (firstOf e) 0 && affected (jobAt t j) (secondOf e))))
       (takenOff t e .price) (jobAt t j) (jobAt (x .table) j)
 
   -- an accepted event of another kind writes no job
-  quiet : (u : Table) (k : ℕ) → codeOf e ≡ k → eqb k ADMIT ≡ false → eqb k DELIVER ≡ false → eqb k NOTICE ≡ false → jobAt u j ≡ jobAt t j → Told (accept u)
-  quiet u k c n1 n3 n7 same =
-      other (not-code (codeOf e) k ADMIT _ c n1) (not-code (codeOf e) k DELIVER _ c n3) (not-code (codeOf e) k NOTICE _ c n7) (same-job (jobAt t j) (jobAt u j) same)
+  job-unchanged : (u : Table) (k : ℕ) → codeOf e ≡ k → eqb k ADMIT ≡ false → eqb k DELIVER ≡ false → eqb k NOTICE ≡ false → jobAt u j ≡ jobAt t j
+      → Told (accept u)
+  job-unchanged u k c n1 n3 n7 same =
+      other (not-code (codeOf e) k ADMIT _ c n1) (not-code (codeOf e) k DELIVER _ c n3) (not-code (codeOf e) k NOTICE _ c n7)
+      (same-job (jobAt t j) (jobAt u j) same)
 
   delivery : codeOf e ≡ DELIVER → oldest t (firstOf e) (secondOf e) < t .«in_flight» → Told (accept (delivered t (oldest t (firstOf e) (secondOf e))))
   delivery c slot =
@@ -135,12 +141,13 @@ module _ (t : Table) (w : Whole t) (e : List ℕ) (j : ℕ) (l : j < 64) where
       by-cases Told t e
       (λ n r. rw (ne-eqb n 0 (refused-nonzero 9 n (omega arith) r)) (other refl refl refl (same-job (jobAt t j) (jobAt t j) refl)))
       (record {
-        admit = λ c d. flags (is-code (codeOf e) ADMIT _ _ c refl) (not-code (codeOf e) ADMIT DELIVER _ c refl) (not-code (codeOf e) ADMIT NOTICE _ c refl)
+        admit = λ c d. flags (is-code (codeOf e) ADMIT _ _ c refl) (not-code (codeOf e) ADMIT DELIVER _ c refl)
+            (not-code (codeOf e) ADMIT NOTICE _ c refl)
             (change-admitted t w j l (firstOf e) (takenOff t e .price) d);
-        steal = λ c d. quiet (stolen t (firstOf e) (secondOf e)) STEAL c refl refl refl (job-stolen t j (firstOf e) (secondOf e));
+        steal = λ c d. job-unchanged (stolen t (firstOf e) (secondOf e)) STEAL c refl refl refl (job-stolen t j (firstOf e) (secondOf e));
         deliver = λ c d. delivery c (d .slot);
-        start = λ c d. quiet (started t (firstOf e) (secondOf e)) START c refl refl refl (job-started t j (firstOf e) (secondOf e));
-        done = λ c d. quiet (finished t (firstOf e)) DONE c refl refl refl (job-finished t j (firstOf e));
-        die = λ c d. quiet (died t (firstOf e)) DIE c refl refl refl (job-died t (firstOf e) j);
+        start = λ c d. job-unchanged (started t (firstOf e) (secondOf e)) START c refl refl refl (job-started t j (firstOf e) (secondOf e));
+        done = λ c d. job-unchanged (finished t (firstOf e)) DONE c refl refl refl (job-finished t j (firstOf e));
+        die = λ c d. job-unchanged (died t (firstOf e)) DIE c refl refl refl (job-died t (firstOf e) j);
         notice = λ c d. notice c;
       })

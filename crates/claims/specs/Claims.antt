@@ -1,9 +1,9 @@
--- Demand 3: one claim about an accepted book, a whole list of events, each of them any list of bytes, and what comes back when they are run from the fresh
--- table of the book: the numbers that they are answered, and the table after them. Its sentences are quoted from the three demands (README.md, "What is
--- proved"); what their words mean is document 01's "A run, and the words of demand 3". It is stated over definitions alone; its proof is `demand-3` in
--- proofs/Demand3.antt, and that of the sentence on two runs `runs-agree` beside it.
+-- Demand 3: one claim about an accepted book, a whole list of events, each of them any list of bytes, and what comes back when they are run from the
+-- fresh table of the book: the numbers that they are answered, and the table after them. Its sentences are quoted from the three demands (README.md,
+-- "What is proved"); what their words mean is document 01's "A run, and the words of demand 3". It is stated over definitions alone; its proof is
+-- `demand-3` in proofs/Demand3.antt, and that of the sentence on two runs `runs-agree` beside it.
 --
---   openOf book .table      the fresh table of the book                       (opening)
+--   openOf book .table      the fresh table of the book                       (table_opening)
 --   stepOf t e              the answer to event e on table t, and its table   (dispatcher)
 --   runOf t es              the table after the events es                     (dispatcher)
 --   answersOf t es          the numbers that they are answered                (dispatcher)
@@ -19,7 +19,7 @@ use Rattle.table.specs.declared.Job.{Job}
 use Rattle.table.specs.Parts.{NOT-ADMITTED, PRICED}
 use Rattle.table.specs.declared.Table.{Table}
 use Rattle.table.specs.Views.{jobAt}
-use Rattle.opening.specs.Opening.{openOf}
+use Rattle.table_opening.specs.Opening.{openOf}
 use Rattle.dispatcher.specs.Step.{stepOf, runOf, answersOf}
 use Rattle.claims.specs.History.{countOf, admits, kills, finds, resultsOf, stateAfter, serialOf, allFurther}
 

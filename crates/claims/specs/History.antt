@@ -1,5 +1,5 @@
--- Document 01, "A run, and the words of demand 3": what a list of events did to a table, told from the answers and from the messages delivered along the
--- run. t is the table that the first event is given; each later one is given the table that the event before it returned. Definitions only.
+-- Document 01, "A run, and the words of demand 3": what a list of events did to a table, told from the answers and from the messages delivered along
+-- the run. t is the table that the first event is given; each later one is given the table that the event before it returned. Definitions only.
 use Prim.Native.Nat.{ℕ, zero, suc, _+_}
 use mathlib.Core.Bool.{Bool, true, cond, _&&_}
 use mathlib.Core.List.{List, [], _∷_}
@@ -12,7 +12,7 @@ use Rattle.table.specs.declared.Table.{Table}
 use Rattle.table.specs.Views.{jobAt, messageAt}
 use Rattle.table.specs.Messages.{oldest}
 use Rattle.table.specs.Parts.{RESULT}
-use Rattle.notice.specs.Notice.{lost}
+use Rattle.event_notice.specs.Notice.{affected}
 use Rattle.dispatcher.specs.Codes.{ADMIT, DELIVER, DIE, NOTICE}
 use Rattle.dispatcher.specs.Step.{codeOf, firstOf, secondOf, stepOf, isFurther}
 
@@ -35,7 +35,7 @@ kills t e = isAccepted t e && eqb (codeOf e) DIE
 
 -- "the root notices that found the job": accepted, and the job is open on the machine told of, or moving from or to it
 abbrev pub finds : ℕ → Table → List ℕ → Bool
-finds j t e = isAccepted t e && (eqb (codeOf e) NOTICE && (eqb (firstOf e) 0 && lost (jobAt t j) (secondOf e)))
+finds j t e = isAccepted t e && (eqb (codeOf e) NOTICE && (eqb (firstOf e) 0 && affected (jobAt t j) (secondOf e)))
 
 -- the message that Deliver takes off: "the oldest message from a to b"
 abbrev pub takenOff : Table → List ℕ → Message

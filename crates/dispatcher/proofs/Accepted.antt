@@ -12,18 +12,18 @@ use Rattle.table.specs.Views.{refuse}
 use Rattle.table.specs.Messages.{oldest}
 use Rattle.table.specs.Parts.{accept}
 use Rattle.table.proofs.Refusals.{Judged, accepted, refused-nonzero}
-use Rattle.events.specs.Events.{admitted, admitOf, delivered, deliverOf, died, dieOf}
-use Rattle.events.proofs.Cases.{Admitting, Delivering, Dying, by-admit, by-deliver, by-die}
-use Rattle.steal.specs.Steal.{stolen, stealOf}
-use Rattle.steal.proofs.Cases.{Stealing, by-steal}
-use Rattle.work.specs.Work.{started, startOf, finished, doneOf}
-use Rattle.work.proofs.Cases.{Starting, Finishing, by-start, by-done}
-use Rattle.notice.specs.Notice.{noticed, noticeOf}
-use Rattle.notice.proofs.Cases.{Noticing, by-notice}
+use Rattle.event_admit_deliver_die.specs.AdmitDeliverDie.{admitted, admitOf, delivered, deliverOf, died, dieOf}
+use Rattle.event_admit_deliver_die.proofs.Cases.{Admitting, Delivering, Dying, by-admit, by-deliver, by-die}
+use Rattle.event_steal.specs.Steal.{stolen, stealOf}
+use Rattle.event_steal.proofs.Cases.{Stealing, by-steal}
+use Rattle.event_start_done.specs.StartDone.{started, startOf, finished, doneOf}
+use Rattle.event_start_done.proofs.Cases.{Starting, Finishing, by-start, by-done}
+use Rattle.event_notice.specs.Notice.{noticed, noticeOf}
+use Rattle.event_notice.proofs.Cases.{Noticing, by-notice}
 use Rattle.dispatcher.proofs.Events.{by-form, answer-number}
 use Rattle.dispatcher.proofs.Numbers.{entry-in, start-in, machines-in}
 use Rattle.dispatcher.specs.Codes.{ADMIT, STEAL, DELIVER, START, DONE, DIE, NOTICE}
-use Rattle.dispatcher.specs.Step.{codeOf, firstOf, secondOf, twoMachines, formed, numbered, eventOf, answerOf}
+use Rattle.dispatcher.specs.Step.{codeOf, firstOf, secondOf, twoMachines, wellFormed, indicesInRange, eventOf, answerOf}
 
 module _ (t : Table) (e : List ℕ) where
   pub answer-refused : answerOf t e .number ≢ 0 → refuse (answerOf t e .number) t ≡ answerOf t e
@@ -33,23 +33,25 @@ module _ (t : Table) (e : List ℕ) where
   pub answer-accepted : answerOf t e .number ≡ 0 → accept (answerOf t e .table) ≡ answerOf t e
   answer-accepted z = ap (λ (n : ℕ). refuse n (answerOf t e .table)) (sym z)
 
-  -- the event of its code, which is formed and has its numbers in the table
+  -- the event of its code, which is well formed and has its numbers in the table
   pub answer-event : answerOf t e .number ≡ 0
-      → (formed e ≡ true) × (numbered t (codeOf e) (firstOf e) (secondOf e) ≡ true) × (answerOf t e ≡ eventOf t (codeOf e) (firstOf e) (secondOf e))
+      → (wellFormed e ≡ true) × (indicesInRange t (codeOf e) (firstOf e) (secondOf e) ≡ true)
+      × (answerOf t e ≡ eventOf t (codeOf e) (firstOf e) (secondOf e))
   answer-event =
-      by-form (λ x. x .number ≡ 0 → (formed e ≡ true) × (numbered t (codeOf e) (firstOf e) (secondOf e) ≡ true) × (x ≡ eventOf t (codeOf e) (firstOf e) (secondOf e)))
+      by-form (λ x. x .number ≡ 0 → (wellFormed e ≡ true) × (indicesInRange t (codeOf e) (firstOf e) (secondOf e) ≡ true)
+      × (x ≡ eventOf t (codeOf e) (firstOf e) (secondOf e)))
       t e (λ n r z. absurd (refused-nonzero 10 n (omega arith) r z)) (λ f g z. (f, g, refl))
 
 -- ---- by the code
 
-module _ (t : Table) (code a b : ℕ) (g : numbered t code a b ≡ true) (z : eventOf t code a b .number ≡ 0) where
+module _ (t : Table) (code a b : ℕ) (g : indicesInRange t code a b ≡ true) (z : eventOf t code a b .number ≡ 0) where
   -- the event is o, which accepts with the table u
   accepts : {D : Type 0} {u : Table} (o : Answer) → eventOf t code a b ≡ o → Judged t D u o → D × (u ≡ eventOf t code a b .table)
   accepts {D} {u} o q by =
       let y = accepted t D u o by (ap (λ (w : Answer). w .number) (sym q) ∙ z) in
       (y .0, ap (λ (w : Answer). w .table) (y .1 ∙ sym q))
 
-  two : (n : ℕ) → code ≡ n → twoMachines n ≡ true → (a < t .machines) × (b < t .machines)
+  two : (n : ℕ) → code ≡ n → twoMachines n ≡ true → (a < t .«machine_count») × (b < t .«machine_count»)
   two n e y = machines-in t code a b g (ap (λ (k : ℕ). twoMachines k) e ∙ y)
 
   pub table-admit : code ≡ ADMIT → Admitting t a × (admitted t a ≡ eventOf t code a b .table)

@@ -1,5 +1,5 @@
--- One event on a table, by cases: it is refused, with a number that is not 0 and the table as it was; or it is accepted, and then its refusals have tested
--- what the record of its kind says (proofs/Cases.antt of the event's crate).
+-- One event on a table, by cases: it is refused, with a number that is not 0 and the table as it was; or it is accepted, and then its refusals have
+-- tested what the record of its kind says (proofs/Cases.antt of the event's crate).
 -- Assumes nothing.
 use Prim.Native.Nat.{ℕ, _≤_, _<_}
 use mathlib.Core.Path.{_≡_, refl, ap, _∙_}
@@ -17,17 +17,17 @@ use Rattle.table.specs.Messages.{oldest}
 use Rattle.table.specs.Parts.{accept}
 use Rattle.table.proofs.Refusals.{isRefusal, refused-most, refused-not-9, refused-wider}
 use Rattle.validity.specs.Validity.{tableOk}
-use Rattle.events.specs.Events.{admitted, delivered, died}
-use Rattle.events.proofs.Cases.{Admitting, Delivering, Dying, by-admit, by-deliver, by-die}
-use Rattle.steal.specs.Steal.{stolen}
-use Rattle.steal.proofs.Cases.{Stealing, by-steal}
-use Rattle.work.specs.Work.{started, finished}
-use Rattle.work.proofs.Cases.{Starting, Finishing, by-start, by-done}
-use Rattle.notice.specs.Notice.{noticed}
-use Rattle.notice.proofs.Cases.{Noticing, by-notice}
+use Rattle.event_admit_deliver_die.specs.AdmitDeliverDie.{admitted, delivered, died}
+use Rattle.event_admit_deliver_die.proofs.Cases.{Admitting, Delivering, Dying, by-admit, by-deliver, by-die}
+use Rattle.event_steal.specs.Steal.{stolen}
+use Rattle.event_steal.proofs.Cases.{Stealing, by-steal}
+use Rattle.event_start_done.specs.StartDone.{started, finished}
+use Rattle.event_start_done.proofs.Cases.{Starting, Finishing, by-start, by-done}
+use Rattle.event_notice.specs.Notice.{noticed}
+use Rattle.event_notice.proofs.Cases.{Noticing, by-notice}
 use Rattle.dispatcher.proofs.Numbers.{entry-in, start-in, machines-in}
 use Rattle.dispatcher.specs.Codes.{ADMIT, STEAL, DELIVER, START, DONE, DIE, NOTICE}
-use Rattle.dispatcher.specs.Step.{codeOf, firstOf, secondOf, twoMachines, formed, numbered, eventOf, answerOf, stepOf}
+use Rattle.dispatcher.specs.Step.{codeOf, firstOf, secondOf, twoMachines, wellFormed, indicesInRange, eventOf, answerOf, stepOf}
 
 -- ---- an accepted event, by its code: the one list of the events
 
@@ -55,49 +55,57 @@ every-arm P t e f = record {
 
 -- ---- any event, of any bytes
 
--- 10 and 11 refuse; what is left is formed, and its numbers are those of the table
+-- 10 and 11 refuse; what is left is well formed, and its numbers are those of the table
 pub by-form : (P : Answer → Type 0) (t : Table) (e : List ℕ) → ((n : ℕ) → isRefusal 10 n ≡ true → P (refuse n t))
-    → (formed e ≡ true → numbered t (codeOf e) (firstOf e) (secondOf e) ≡ true → P (eventOf t (codeOf e) (firstOf e) (secondOf e)))
+    → (wellFormed e ≡ true → indicesInRange t (codeOf e) (firstOf e) (secondOf e) ≡ true → P (eventOf t (codeOf e) (firstOf e) (secondOf e)))
     → P (answerOf t e)
 unfolding answerOf
 by-form P t e refused event =
-    byBool (not (formed e)) (λ f. rw (f, answerOf) (refused 10 refl))
-    (λ f. byBool (not (numbered t (codeOf e) (firstOf e) (secondOf e))) (λ g. rw (f, g, answerOf) (refused 11 refl))
+    byBool (not (wellFormed e)) (λ f. rw (f, answerOf) (refused 10 refl))
+    (λ f. byBool (not (indicesInRange t (codeOf e) (firstOf e) (secondOf e))) (λ g. rw (f, g, answerOf) (refused 11 refl))
     (λ g. rw (f, g, answerOf) (event (not-false _ f) (not-false _ g))))
 
 module _ (P : Answer → Type 0) (t : Table) (e : List ℕ)
     (refused : (n : ℕ) → isRefusal 10 n ≡ true → P (refuse n t)) (arms : Arms (λ u. P (accept u)) t e) where
-  by-event : numbered t (codeOf e) (firstOf e) (secondOf e) ≡ true → P (eventOf t (codeOf e) (firstOf e) (secondOf e))
+  by-event : indicesInRange t (codeOf e) (firstOf e) (secondOf e) ≡ true → P (eventOf t (codeOf e) (firstOf e) (secondOf e))
   unfolding eventOf
   by-event g =
       let c = codeOf e in
       let a = firstOf e in
       let b = secondOf e in
-      let two : (n : ℕ) → eqb c n ≡ true → twoMachines n ≡ true → (a < t .machines) × (b < t .machines) = λ n x y. machines-in t c a b g (ap (λ (k : ℕ). twoMachines k) (eqb-true c n x) ∙ y) in
-      byBool (eqb c ADMIT) (λ x. rw (x, eventOf) (by-admit t a (entry-in t c a b g (eqb-true c ADMIT x)) P refused (arms .admit (eqb-true c ADMIT x))))
-      (λ x1. byBool (eqb c STEAL) (λ x. let p = two STEAL x refl in rw (x1, x, eventOf) (by-steal t a b (p .0) (p .1) P refused (arms .steal (eqb-true c STEAL x))))
+      let two : (n : ℕ) → eqb c n ≡ true → twoMachines n ≡ true → (a < t .«machine_count») × (b < t .«machine_count») =
+      λ n x y. machines-in t c a b g (ap (λ (k : ℕ). twoMachines k) (eqb-true c n x) ∙ y) in
+      byBool (eqb c ADMIT)
+      (λ x. rw (x, eventOf) (by-admit t a (entry-in t c a b g (eqb-true c ADMIT x)) P refused (arms .admit (eqb-true c ADMIT x))))
+      (λ x1. byBool (eqb c STEAL)
+      (λ x. let p = two STEAL x refl in rw (x1, x, eventOf) (by-steal t a b (p .0) (p .1) P refused (arms .steal (eqb-true c STEAL x))))
       (λ x2. byBool (eqb c DELIVER) (λ x. rw (x1, x2, x, eventOf) (by-deliver t a b P refused (arms .deliver (eqb-true c DELIVER x))))
-      (λ x3. byBool (eqb c START) (λ x. let p = start-in t c a b g (eqb-true c START x) in rw (x1, x2, x3, x, eventOf) (by-start t a b (p .0) (p .1) P refused (arms .start (eqb-true c START x))))
+      (λ x3. byBool (eqb c START) (λ x. let p = start-in t c a b g (eqb-true c START x) in rw (x1, x2, x3, x, eventOf)
+      (by-start t a b (p .0) (p .1) P refused (arms .start (eqb-true c START x))))
       (λ x4. byBool (eqb c DONE) (λ x. rw (x1, x2, x3, x4, x, eventOf) (by-done t a (two DONE x refl .0) P refused (arms .done (eqb-true c DONE x))))
       (λ x5. byBool (eqb c DIE) (λ x. rw (x1, x2, x3, x4, x5, x, eventOf) (by-die t a (two DIE x refl .0) P refused (arms .die (eqb-true c DIE x))))
-      (λ x6. byBool (eqb c NOTICE) (λ x. let p = two NOTICE x refl in rw (x1, x2, x3, x4, x5, x6, x, eventOf) (by-notice t a b (p .0) (p .1) P refused (arms .notice (eqb-true c NOTICE x))))
+      (λ x6. byBool (eqb c NOTICE) (λ x. let p = two NOTICE x refl in rw (x1, x2, x3, x4, x5, x6, x, eventOf)
+      (by-notice t a b (p .0) (p .1) P refused (arms .notice (eqb-true c NOTICE x))))
       (λ x7. rw (x1, x2, x3, x4, x5, x6, x7, eventOf) (refused 10 refl))))))))
 
   pub by-answer : P (answerOf t e)
   by-answer = by-form P t e refused (λ f g. by-event g)
 
 -- of any table
-pub by-cases : (P : Answer → Type 0) (t : Table) (e : List ℕ) → ((n : ℕ) → isRefusal 9 n ≡ true → P (refuse n t)) → Arms (λ u. P (accept u)) t e → P (stepOf t e)
+pub by-cases : (P : Answer → Type 0) (t : Table) (e : List ℕ) → ((n : ℕ) → isRefusal 9 n ≡ true → P (refuse n t)) → Arms (λ u. P (accept u)) t e
+    → P (stepOf t e)
 unfolding stepOf
 by-cases P t e refused arms =
     byBool (not (tableOk t)) (λ f. rw (f, stepOf) (refused 9 refl))
     (λ f. rw (f, stepOf) (by-answer P t e (λ n r. refused n (refused-wider n r)) arms))
 
 -- the same by the number alone
-pub answer-number : (P : Answer → Type 0) (t : Table) (e : List ℕ) → ((n : ℕ) → isRefusal 10 n ≡ true → P (refuse n t)) → ((u : Table) → P (accept u)) → P (answerOf t e)
+pub answer-number : (P : Answer → Type 0) (t : Table) (e : List ℕ) → ((n : ℕ) → isRefusal 10 n ≡ true → P (refuse n t)) → ((u : Table) → P (accept u))
+    → P (answerOf t e)
 answer-number P t e refused f = by-answer P t e refused (every-arm (λ u. P (accept u)) t e f)
 
-pub step-number : (P : Answer → Type 0) (t : Table) (e : List ℕ) → ((n : ℕ) → isRefusal 9 n ≡ true → P (refuse n t)) → ((u : Table) → P (accept u)) → P (stepOf t e)
+pub step-number : (P : Answer → Type 0) (t : Table) (e : List ℕ) → ((n : ℕ) → isRefusal 9 n ≡ true → P (refuse n t)) → ((u : Table) → P (accept u))
+    → P (stepOf t e)
 step-number P t e refused f = by-cases P t e refused (every-arm (λ u. P (accept u)) t e f)
 
 -- 10, 11 and the events answer other numbers than 9

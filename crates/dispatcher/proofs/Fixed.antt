@@ -9,37 +9,47 @@ use Rattle.table.specs.declared.Job.{Job}
 use Rattle.table.specs.declared.Machine.{Machine}
 use Rattle.table.specs.declared.Message.{Message}
 use Rattle.table.specs.declared.Table.{Table}
-use Rattle.table.specs.Views.{bondAt, nodeAt, withJob, withNode, withPool, withTold, withMessages}
-use Rattle.table.specs.Messages.{pull, push, sift, send}
-use Rattle.table.proofs.Views.{bond-job, bond-node, bond-pool, bond-told, bond-messages, bonds-job, bonds-node, bonds-pool, bonds-told, bonds-messages, machines-job, machines-node, machines-pool, machines-told, machines-messages}
-use Rattle.handlers.specs.Handlers.{handle}
-use Rattle.events.specs.Events.{admitted, delivered, died}
-use Rattle.steal.specs.Steal.{stolen}
-use Rattle.work.specs.Work.{started, finished}
-use Rattle.notice.specs.Notice.{noticed}
-use Rattle.preservation.proofs.Closed.{Closed, closed-handle, closed-admitted, closed-stolen, closed-delivered, closed-started, closed-finished, closed-died, closed-noticed}
+use Rattle.table.specs.Views.{bondAt, machineAt, withJob, withMachine, withPool, withTold, withMessages}
+use Rattle.table.specs.Messages.{removeAt, push, keepMessages, send}
+use Rattle.table.proofs.Views.{bond-job, bond-machine, bond-pool, bond-told, bond-messages, bonds-job, bonds-machine, bonds-pool, bonds-told}
+use Rattle.table.proofs.Views.{bonds-messages, machine-count-job, machine-count-machine, machine-count-pool, machine-count-told}
+use Rattle.table.proofs.Views.{machine-count-messages}
+use Rattle.handler.specs.Handler.{handle}
+use Rattle.event_admit_deliver_die.specs.AdmitDeliverDie.{admitted, delivered, died}
+use Rattle.event_steal.specs.Steal.{stolen}
+use Rattle.event_start_done.specs.StartDone.{started, finished}
+use Rattle.event_notice.specs.Notice.{noticed}
+use Rattle.protocol_preservation.proofs.Closed.{Closed, closed-handle, closed-admitted, closed-stolen, closed-delivered, closed-started}
+use Rattle.protocol_preservation.proofs.Closed.{closed-finished, closed-died, closed-noticed}
 use Rattle.dispatcher.specs.Step.{stepOf, runOf}
-use Rattle.dispatcher.proofs.ByEvent.{Kept, by-step, by-run}
+use Rattle.dispatcher.proofs.ByEvent.{Preserved, by-step, by-run}
 
 -- no one-part update writes what f reads
 pub record Fixed {A : Type 0} (f : Table → A) : Type 0 where
   pub job : (t : Table) (j : ℕ) (v : Job) → f (withJob t j v) ≡ f t
-  pub node : (t : Table) (m : ℕ) (v : Machine) → f (withNode t m v) ≡ f t
+  pub machine : (t : Table) (m : ℕ) (v : Machine) → f (withMachine t m v) ≡ f t
   pub pool : (t : Table) (m j r : ℕ) → f (withPool t m j r) ≡ f t
   pub told : (t : Table) (m d r : ℕ) → f (withTold t m d r) ≡ f t
   pub messages : (t : Table) (n : ℕ) (l : List Message) → f (withMessages t n l) ≡ f t
 
 -- the machine count, all terms, and the terms of entry j
-pub fixed-machines : Fixed (λ t. t .machines)
-fixed-machines = record { job = machines-job; node = machines-node; pool = machines-pool; told = machines-told; messages = machines-messages }
+pub fixed-machine-count : Fixed (λ t. t .«machine_count»)
+fixed-machine-count =
+    record {
+      job = machine-count-job;
+      machine = machine-count-machine;
+      pool = machine-count-pool;
+      told = machine-count-told;
+      messages = machine-count-messages;
+    }
 
 fixed-bonds : Fixed (λ t. t .bonds)
-fixed-bonds = record { job = bonds-job; node = bonds-node; pool = bonds-pool; told = bonds-told; messages = bonds-messages }
+fixed-bonds = record { job = bonds-job; machine = bonds-machine; pool = bonds-pool; told = bonds-told; messages = bonds-messages }
 
 pub fixed-bond : (j : ℕ) → Fixed (λ t. bondAt t j)
 fixed-bond j = record {
   job = λ t i v. bond-job t i v j;
-  node = λ t m v. bond-node t m v j;
+  machine = λ t m v. bond-machine t m v j;
   pool = λ t m i r. bond-pool t m i r j;
   told = λ t m d r. bond-told t m d r j;
   messages = λ t n l. bond-messages t n l j;
@@ -51,19 +61,19 @@ module _ {A : Type 0} (f : Table → A) (h : Fixed f) where
   Is a n t = f t ≡ a
 
   fixed-closed : (a : A) → Closed (Is a)
-  unfolding sift send push
+  unfolding keepMessages send push
   fixed-closed a = record {
     handling = record {
       local = record {
-        node = λ n t m v e p. h .node t m v ∙ p;
+        machine = λ n t m v e p. h .machine t m v ∙ p;
         pool = λ n t m j r p. h .pool t m j r ∙ p;
-        send = λ t x p. cond-elim (Is a 0) (eqb (nodeAt t (x .to) .alive) 1) _ t (h .messages t _ _ ∙ p) p;
+        send = λ t x p. cond-elim (Is a 0) (eqb (machineAt t (x .to) .alive) 1) _ t (h .messages t _ _ ∙ p) p;
         less = λ t p. p;
       };
       job = λ n t j v p. h .job t j v ∙ p;
     };
     told = λ t m d r p. h .told t m d r ∙ p;
-    sift = λ t q p. h .messages t _ _ ∙ p;
+    keepMessages = λ t q p. h .messages t _ _ ∙ p;
   }
 
   module _ (t : Table) where
@@ -77,7 +87,7 @@ module _ {A : Type 0} (f : Table → A) (h : Fixed f) where
     fixed-stolen a b = closed-stolen (Is (f t)) (fixed-closed (f t)) t a b refl
 
     pub fixed-delivered : (k : ℕ) → f (delivered t k) ≡ f t
-    unfolding pull
+    unfolding removeAt
     fixed-delivered k = closed-delivered (Is (f t)) (fixed-closed (f t)) t k (h .messages t _ _)
 
     pub fixed-started : (a b : ℕ) → f (started t a b) ≡ f t
@@ -87,15 +97,15 @@ module _ {A : Type 0} (f : Table → A) (h : Fixed f) where
     fixed-finished a = closed-finished (Is (f t)) (fixed-closed (f t)) t a refl
 
     pub fixed-died : (a : ℕ) → f (died t a) ≡ f t
-    fixed-died a = closed-died (Is (f t)) (fixed-closed (f t)) t a (λ u p. h .node u a _ ∙ p) refl
+    fixed-died a = closed-died (Is (f t)) (fixed-closed (f t)) t a (λ u p. h .machine u a _ ∙ p) refl
 
     pub fixed-noticed : (a b : ℕ) → f (noticed t a b) ≡ f t
     fixed-noticed a b = closed-noticed (Is (f t)) (fixed-closed (f t)) t a b refl
 
   -- ---- steps and runs
 
-  fixed-kept : (a : A) → Kept (λ t. f t ≡ a)
-  fixed-kept a t e p = record {
+  fixed-preserved : (a : A) → Preserved (λ t. f t ≡ a)
+  fixed-preserved a t e p = record {
     admit = λ c d. fixed-admitted t _ ∙ p;
     steal = λ c d. fixed-stolen t _ _ ∙ p;
     deliver = λ c d. fixed-delivered t _ ∙ p;
@@ -106,10 +116,10 @@ module _ {A : Type 0} (f : Table → A) (h : Fixed f) where
   }
 
   pub fixed-step : (t : Table) (e : List ℕ) → f (stepOf t e .table) ≡ f t
-  fixed-step t e = by-step (λ u. f u ≡ f t) (fixed-kept (f t)) t refl e
+  fixed-step t e = by-step (λ u. f u ≡ f t) (fixed-preserved (f t)) t refl e
 
   fixed-run : (t : Table) (es : List (List ℕ)) → f (runOf t es) ≡ f t
-  fixed-run t es = by-run (λ u. f u ≡ f t) (fixed-kept (f t)) t es refl
+  fixed-run t es = by-run (λ u. f u ≡ f t) (fixed-preserved (f t)) t es refl
 
 -- ---- the terms
 

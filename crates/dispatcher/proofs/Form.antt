@@ -9,18 +9,19 @@ use lib.Dec.{eqb, leb}
 use lib.ListN.{length}
 use Rattle.lists.proofs.Chains.{chain-apart}
 use Rattle.dispatcher.specs.Codes.{lastCode}
-use Rattle.dispatcher.specs.Step.{codeOf, secondOf, usesSecond, formed}
+use Rattle.dispatcher.specs.Step.{codeOf, secondOf, usesSecond, wellFormed}
 
-pub formed-short : (e : List ℕ) → length e < 3 → formed e ≡ false
-unfolding formed
-formed-short e h = rw (lt-leb 3 (length e) h)
+pub wellFormed-short : (e : List ℕ) → length e < 3 → wellFormed e ≡ false
+unfolding wellFormed
+wellFormed-short e h = rw (lt-leb 3 (length e) h)
 
-pub formed-is : (e : List ℕ) → 3 ≤ length e → formed e ≡ (leb 1 (codeOf e) && leb (codeOf e) lastCode && (usesSecond (codeOf e) || eqb (secondOf e) 0))
-unfolding formed
-formed-is e h = rw (le-leb 3 (length e) h)
+pub wellFormed-is : (e : List ℕ) → 3 ≤ length e
+    → wellFormed e ≡ (leb 1 (codeOf e) && leb (codeOf e) lastCode && (usesSecond (codeOf e) || eqb (secondOf e) 0))
+unfolding wellFormed
+wellFormed-is e h = rw (le-leb 3 (length e) h)
 
-pub formed-long : (e : List ℕ) → formed e ≡ true → 3 ≤ length e
-unfolding formed
-formed-long e f =
+pub wellFormed-long : (e : List ℕ) → wellFormed e ≡ true → 3 ≤ length e
+unfolding wellFormed
+wellFormed-long e f =
     let c = codeOf e in
     leb-true 3 (length e) (chain-apart (leb 3 (length e)) (leb 1 c ∷ leb c lastCode ∷ (usesSecond c || eqb (secondOf e) 0) ∷ []) f .0)

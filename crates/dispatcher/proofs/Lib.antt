@@ -4,7 +4,7 @@ pub mod Events
 pub mod Runs
 pub mod ByEvent
 pub mod Fixed
-pub mod Kept
+pub mod Preserved
 pub mod Nine
 pub mod Ready
 pub mod Form

@@ -11,7 +11,7 @@ use Rattle.table.proofs.Views.{Sized}
 use Rattle.validity.specs.Validity.{tableOk}
 use Rattle.dispatcher.specs.Step.{stepOf, runOf}
 use Rattle.dispatcher.proofs.Events.{answer-9}
-use Rattle.dispatcher.proofs.Kept.{run-answer}
+use Rattle.dispatcher.proofs.Preserved.{run-answer}
 
 pub step-9 : (t : Table) (e : List ℕ) → tableOk t ≡ false → stepOf t e ≡ refuse 9 t
 unfolding stepOf

@@ -10,31 +10,31 @@ use Rattle.lists.proofs.Cases.{and-left, and-right}
 use Rattle.table.specs.declared.Table.{Table}
 use Rattle.table.specs.Needs.{Ready}
 use Rattle.dispatcher.specs.Codes.{ADMIT, START}
-use Rattle.dispatcher.specs.Step.{twoMachines, numbered}
+use Rattle.dispatcher.specs.Step.{twoMachines, indicesInRange}
 
 both : (a b m n : ℕ) → ltb a m && ltb b n ≡ true → (a < m) × (b < n)
 both a b m n h = (ltb-true a m (and-left (ltb a m) (ltb b n) h), ltb-true b n (and-right (ltb a m) (ltb b n) h))
 
-module _ (t : Table) (code a b : ℕ) (g : numbered t code a b ≡ true) where
-  pub machines-in : twoMachines code ≡ true → (a < t .machines) × (b < t .machines)
-  unfolding numbered
-  machines-in e = both a b (t .machines) (t .machines) (rw e at g)
+module _ (t : Table) (code a b : ℕ) (g : indicesInRange t code a b ≡ true) where
+  pub machines-in : twoMachines code ≡ true → (a < t .«machine_count») × (b < t .«machine_count»)
+  unfolding indicesInRange
+  machines-in e = both a b (t .«machine_count») (t .«machine_count») (rw e at g)
 
-  pub entry-in : code ≡ ADMIT → a < t .entries
-  unfolding numbered
-  entry-in e = ltb-true a (t .entries) (rw e at g)
+  pub entry-in : code ≡ ADMIT → a < t .«entry_count»
+  unfolding indicesInRange
+  entry-in e = ltb-true a (t .«entry_count») (rw e at g)
 
-  pub start-in : code ≡ START → (a < t .machines) × (b < t .entries)
-  unfolding numbered
-  start-in e = both a b (t .machines) (t .entries) (rw e at g)
+  pub start-in : code ≡ START → (a < t .«machine_count») × (b < t .«entry_count»)
+  unfolding indicesInRange
+  start-in e = both a b (t .«machine_count») (t .«entry_count») (rw e at g)
 
 -- so its numbers are within the arrays
-module _ (t : Table) (r : Ready t) (code a b : ℕ) (g : numbered t code a b ≡ true) where
+module _ (t : Table) (r : Ready t) (code a b : ℕ) (g : indicesInRange t code a b ≡ true) where
   pub machines-below : twoMachines code ≡ true → (a < 16) × (b < 16)
-  machines-below e = let h = machines-in t code a b g e in (omega (arith, h .0, r .machines), omega (arith, h .1, r .machines))
+  machines-below e = let h = machines-in t code a b g e in (omega (arith, h .0, r .«machine_count»), omega (arith, h .1, r .«machine_count»))
 
   pub entry-below : code ≡ ADMIT → a < 64
-  entry-below e = let h = entry-in t code a b g e in omega (arith, r .entries)
+  entry-below e = let h = entry-in t code a b g e in omega (arith, r .«entry_count»)
 
   pub start-below : code ≡ START → (a < 16) × (b < 64)
-  start-below e = let h = start-in t code a b g e in (omega (arith, h .0, r .machines), omega (arith, h .1, r .entries))
+  start-below e = let h = start-in t code a b g e in (omega (arith, h .0, r .«machine_count»), omega (arith, h .1, r .«entry_count»))

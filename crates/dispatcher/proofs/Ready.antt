@@ -10,9 +10,9 @@ use Rattle.table.proofs.Long.{Long, sized}
 use Rattle.table.proofs.Views.{Sized}
 use Rattle.validity.specs.Validity.{tableOk}
 use Rattle.table.specs.Needs.{Within, Ready}
-use Rattle.preservation.proofs.Ok.{Ok, tests, ok, used-most}
-use Rattle.preservation.proofs.Passed.{facts, message-facts}
-use Rattle.preservation.proofs.Accepted.{in-flight}
+use Rattle.protocol_preservation.proofs.Ok.{Ok, tests, ok, used-most}
+use Rattle.protocol_preservation.proofs.Passed.{facts, message-facts}
+use Rattle.protocol_preservation.proofs.Accepted.{in-flight}
 
 within : (t : Table) → Sized t → Ok t → (i : ℕ) → i < t .«in_flight» → Within (messageAt t i)
 within t s o i h =
@@ -26,11 +26,11 @@ ready t l e =
     let o = ok t s e in
     let f = facts t s o in
     record {
-      machines = f .machines-most;
-      entries = f .entries-most;
+      «machine_count» = f .machine-count-most;
+      «entry_count» = f .entry-count-most;
       flight = f .used-most;
       messages = within t s o;
       reserved = λ m h. f .machine m h .reserved-job;
       running = λ m h. f .machine m h .running-job;
-      replicas = λ j h. omega (arith, f .job j h .replica, f .bound-most);
+      replicas = λ j h. omega (arith, f .job j h .replica, f .maxReplica-most);
     }

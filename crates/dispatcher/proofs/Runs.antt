@@ -21,7 +21,8 @@ unfolding answersOf
 answers-length t [] = refl
 answers-length t (e ∷ es) = ap suc (answers-length (stepOf t e .table) es)
 
-pub answer-at : (t : Table) (es : List (List ℕ)) (e : List ℕ) (fs : List (List ℕ)) → getD (answersOf t (es ++ e ∷ fs)) (length es) 0 ≡ stepOf (runOf t es) e .number
+pub answer-at : (t : Table) (es : List (List ℕ)) (e : List ℕ) (fs : List (List ℕ))
+    → getD (answersOf t (es ++ e ∷ fs)) (length es) 0 ≡ stepOf (runOf t es) e .number
 unfolding runOf answersOf
 answer-at t [] e fs = refl
 answer-at t (d ∷ es) e fs = answer-at (stepOf t d .table) es e fs

@@ -9,10 +9,10 @@ use Rattle.table.specs.declared.Table.{Table}
 use Rattle.table.specs.declared.Answer.{Answer}
 use Rattle.table.specs.Views.{refuse}
 use Rattle.validity.specs.Validity.{tableOk}
-use Rattle.events.specs.Events.{admitOf, deliverOf, dieOf}
-use Rattle.steal.specs.Steal.{stealOf}
-use Rattle.work.specs.Work.{startOf, doneOf}
-use Rattle.notice.specs.Notice.{noticeOf}
+use Rattle.event_admit_deliver_die.specs.AdmitDeliverDie.{admitOf, deliverOf, dieOf}
+use Rattle.event_steal.specs.Steal.{stealOf}
+use Rattle.event_start_done.specs.StartDone.{startOf, doneOf}
+use Rattle.event_notice.specs.Notice.{noticeOf}
 use Rattle.dispatcher.specs.Codes.{ADMIT, STEAL, DELIVER, START, DONE, DIE, NOTICE, lastCode}
 
 -- "Events are three bytes: code, a, b."
@@ -36,19 +36,19 @@ abbrev pub usesSecond : ℕ → Bool
 usesSecond code = not (eqb code ADMIT || eqb code DONE || eqb code DIE)
 
 -- "code not 1 to 7, unused b not 0, or fewer than three bytes": the contrary
-unfoldable pub formed : List ℕ → Bool
-formed e = leb 3 (length e) && leb 1 (codeOf e) && leb (codeOf e) lastCode && (usesSecond (codeOf e) || eqb (secondOf e) 0)
+unfoldable pub wellFormed : List ℕ → Bool
+wellFormed e = leb 3 (length e) && leb 1 (codeOf e) && leb (codeOf e) lastCode && (usesSecond (codeOf e) || eqb (secondOf e) 0)
 
 -- Steal, Deliver, Done, Die and Notice: a and b are machine numbers; an unused b is 0 here, and machine 0 is there
 abbrev pub twoMachines : ℕ → Bool
 twoMachines code = eqb code STEAL || eqb code DELIVER || eqb code DONE || eqb code DIE || eqb code NOTICE
 
 -- "machine or entry number too large": the contrary. Admit's a and Start's b are entry numbers
-unfoldable pub numbered : Table → ℕ → ℕ → ℕ → Bool
-numbered t code a b =
-    cond (twoMachines code) (ltb a (t .machines) && ltb b (t .machines))
-    (cond (eqb code ADMIT) (ltb a (t .entries))
-    (cond (eqb code START) (ltb a (t .machines) && ltb b (t .entries))
+unfoldable pub indicesInRange : Table → ℕ → ℕ → ℕ → Bool
+indicesInRange t code a b =
+    cond (twoMachines code) (ltb a (t .«machine_count») && ltb b (t .«machine_count»))
+    (cond (eqb code ADMIT) (ltb a (t .«entry_count»))
+    (cond (eqb code START) (ltb a (t .«machine_count») && ltb b (t .«entry_count»))
     true))
 
 -- the event of a code
@@ -66,8 +66,8 @@ eventOf t code a b =
 -- 10 and 11, then the event's own refusals: of a table that passes check 9
 unfoldable pub answerOf : Table → List ℕ → Answer
 answerOf t e =
-    cond (not (formed e)) (refuse 10 t)
-    (cond (not (numbered t (codeOf e) (firstOf e) (secondOf e))) (refuse 11 t)
+    cond (not (wellFormed e)) (refuse 10 t)
+    (cond (not (indicesInRange t (codeOf e) (firstOf e) (secondOf e))) (refuse 11 t)
     (eventOf t (codeOf e) (firstOf e) (secondOf e)))
 
 -- "Table, before any event | 9"

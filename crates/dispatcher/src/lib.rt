@@ -5,7 +5,7 @@ ghost use lib.Dec.{eqb, leb};
 ghost use Rattle.validity.specs.Validity.{tableOk};
 ghost use Rattle.table.specs.Needs.{Ready};
 ghost use Rattle.dispatcher.specs.Codes.{lastCode};
-ghost use Rattle.dispatcher.specs.Step.{usesSecond, numbered, eventOf, answerOf, stepOf};
+ghost use Rattle.dispatcher.specs.Step.{usesSecond, indicesInRange, eventOf, answerOf, stepOf};
 use table::Answer;
 use table::Table;
 
@@ -28,24 +28,26 @@ const NOTICE: u8 = 7;
 const LAST_CODE: u8 = NOTICE;
 
 // Whether the code is one of an event, and b is 0 where the event has no use for it.
-fn formed(code: u8, b: u8) -> bool
+fn well_formed(code: u8, b: u8) -> bool
     ensures { λ r. ⌜ r ≡ leb 1 code && leb code lastCode && (usesSecond code || eqb b 0) ⌝ }
 {
-    (1 <= code) & (code <= LAST_CODE) & (!((code == ADMIT) | (code == DONE) | (code == DIE)) | (b == 0))
+    (1 <= code)
+        & (code <= LAST_CODE)
+        & (!((code == ADMIT) | (code == DONE) | (code == DIE)) | (b == 0))
 }
 
 // Whether the machine and entry numbers of an event are those of the table.
-fn numbered(t: Table, code: u8, a: u8, b: u8) -> bool
-    ensures { λ r. ⌜ r ≡ numbered t code a b ⌝ }
+fn indices_in_range(t: Table, code: u8, a: u8, b: u8) -> bool
+    ensures { λ r. ⌜ r ≡ indicesInRange t code a b ⌝ }
 {
     if (code == STEAL) | (code == DELIVER) | (code == DONE) | (code == DIE) | (code == NOTICE) {
-        return (a < t.machines) & (b < t.machines);
+        return (a < t.machine_count) & (b < t.machine_count);
     }
     if code == ADMIT {
-        return a < t.entries;
+        return a < t.entry_count;
     }
     if code == START {
-        return (a < t.machines) & (b < t.entries);
+        return (a < t.machine_count) & (b < t.entry_count);
     }
     true
 }
@@ -53,29 +55,29 @@ fn numbered(t: Table, code: u8, a: u8, b: u8) -> bool
 // The number of the event of a code.
 fn event_number(t: Table, code: u8, a: u8, b: u8) -> u8
     requires { ⌜ Ready t ⌝ }
-    requires { ⌜ numbered t code a b ≡ true ⌝ }
+    requires { ⌜ indicesInRange t code a b ≡ true ⌝ }
     ensures { λ r. ⌜ r ≡ eventOf t code a b .number ⌝ }
 {
     if code == ADMIT {
-        return events::admit_number(t, a);
+        return event_admit_deliver_die::admit_number(t, a);
     }
     if code == STEAL {
-        return steal::steal_number(t, a, b);
+        return event_steal::steal_number(t, a, b);
     }
     if code == DELIVER {
-        return events::deliver_number(t, a, b);
+        return event_admit_deliver_die::deliver_number(t, a, b);
     }
     if code == START {
-        return work::start_number(t, a, b);
+        return event_start_done::start_number(t, a, b);
     }
     if code == DONE {
-        return work::done_number(t, a);
+        return event_start_done::done_number(t, a);
     }
     if code == DIE {
-        return events::die_number(t, a);
+        return event_admit_deliver_die::die_number(t, a);
     }
     if code == NOTICE {
-        return notice::notice_number(t, a, b);
+        return event_notice::notice_number(t, a, b);
     }
     10
 }
@@ -83,30 +85,30 @@ fn event_number(t: Table, code: u8, a: u8, b: u8) -> u8
 // The table after the event of a code whose number is 0.
 fn event_table(t: Table, code: u8, a: u8, b: u8) -> Table
     requires { ⌜ Ready t ⌝ }
-    requires { ⌜ numbered t code a b ≡ true ⌝ }
+    requires { ⌜ indicesInRange t code a b ≡ true ⌝ }
     requires { ⌜ eventOf t code a b .number ≡ 0 ⌝ }
     ensures { λ r. ⌜ r ≡ eventOf t code a b .table ⌝ }
 {
     if code == ADMIT {
-        return events::admitted(t, a);
+        return event_admit_deliver_die::admitted(t, a);
     }
     if code == STEAL {
-        return steal::stolen(t, a, b);
+        return event_steal::stolen(t, a, b);
     }
     if code == DELIVER {
-        return events::delivered(t, a, b);
+        return event_admit_deliver_die::delivered(t, a, b);
     }
     if code == START {
-        return work::started(t, a, b);
+        return event_start_done::started(t, a, b);
     }
     if code == DONE {
-        return work::finished(t, a);
+        return event_start_done::finished(t, a);
     }
     if code == DIE {
-        return events::died(t, a);
+        return event_admit_deliver_die::died(t, a);
     }
     if code == NOTICE {
-        return notice::noticed(t, a, b);
+        return event_notice::noticed(t, a, b);
     }
     t
 }
@@ -122,10 +124,10 @@ pub fn number(t: Table, bytes: &[u8]) -> u8
     let code = bytes[0];
     let a = bytes[1];
     let b = bytes[2];
-    if !formed(code, b) {
+    if !well_formed(code, b) {
         return 10;
     }
-    if !numbered(t, code, a, b) {
+    if !indices_in_range(t, code, a, b) {
         return 11;
     }
     event_number(t, code, a, b)

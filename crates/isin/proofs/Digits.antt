@@ -8,7 +8,7 @@ use native.Mathlib.Omega.{arith}
 use borrow.Author.Tests.{lt-ltb, le-ltb}
 use lib.ListN.{length, drop, getD}
 use lib.Seq.{drop-cons, drop-length}
-use Rattle.isin.specs.Isin.{valueOf, digitsOf, expanded, weight, twice, added}
+use Rattle.isin.specs.Isin.{valueOf, digitsOf, expanded, weight, twice, digitSum}
 
 -- what stands at i - 1, before what is dropped at i
 back : (i : ℕ) → 0 < i → suc (i - 1) ≡ i
@@ -22,11 +22,11 @@ before s i h k = drop-cons s (i - 1) 0 (under i (length s) h k) ∙ ap (λ (n : 
 
 -- the sum t and the flag w say what the digits ds do
 abbrev pub Says : ℕ → Bool → List ℕ → Type 0
-Says t w ds = (t ≡ added ds) × (w ≡ twice ds)
+Says t w ds = (t ≡ digitSum ds) × (w ≡ twice ds)
 
 next : (t d : ℕ) (w : Bool) (ds : List ℕ) → Says t w ds → Says (t + weight w d) (not w) (d ∷ ds)
-unfolding twice added
-next t d w ds h = (rw (h .0, h .1, add-comm (added ds) (weight (twice ds) d)), ap not (h .1))
+unfolding twice digitSum
+next t d w ds h = (rw (h .0, h .1, add-comm (digitSum ds) (weight (twice ds) d)), ap not (h .1))
 
 twice-not : (w : Bool) → not (not w) ≡ w
 twice-not true = refl
@@ -39,7 +39,8 @@ unfolding expanded
 one-digit s i t v r w p q e k f h = rw (before s i p q, ← e, lt-ltb v 10 k, f) (next t v w (expanded (drop i s)) h)
 
 -- or two, with the weights r, of the right one, and z
-pub two-digits : (s : List ℕ) (i t v r z : ℕ) (w : Bool) → 0 < i → i ≤ length s → v ≡ valueOf (getD s (i - 1) 0) → 10 ≤ v → r ≡ weight w (v % 10) → z ≡ weight (not w) (v / 10)
+pub two-digits : (s : List ℕ) (i t v r z : ℕ) (w : Bool) → 0 < i → i ≤ length s → v ≡ valueOf (getD s (i - 1) 0) → 10 ≤ v → r ≡ weight w (v % 10)
+    → z ≡ weight (not w) (v / 10)
     → Says t w (expanded (drop i s)) → Says (t + r + z) w (expanded (drop (i - 1) s))
 unfolding expanded
 two-digits s i t v r z w p q e k f g h =
@@ -49,5 +50,5 @@ two-digits s i t v r z w p q e k f g h =
 
 -- no character, no digit
 pub no-digits : (s : List ℕ) → Says 0 true (expanded (drop (length s) s))
-unfolding expanded twice added
+unfolding expanded twice digitSum
 no-digits s = rw (drop-length s) (refl, refl)

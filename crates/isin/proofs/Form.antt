@@ -8,7 +8,7 @@ use borrow.Author.Tests.{le-leb, lt-leb, eqb-true}
 use lib.ListN.{length, drop, getD}
 use lib.Seq.{drop-cons}
 use lib.Dec.{eqb}
-use Rattle.isin.specs.Isin.{valueOf, allIn, formed}
+use Rattle.isin.specs.Isin.{valueOf, allIn, hasForm}
 
 pub after : (s : List ℕ) (i : ℕ) → i < length s → drop i s ≡ getD s i 0 ∷ drop (i + 1) s
 after s i h = rw (add-one, drop-cons s i 0)
@@ -30,8 +30,8 @@ unfolding allIn
 none lo hi = refl
 
 -- what has the form has twelve characters
-pub twelve : (s : List ℕ) → formed s ≡ true → length s ≡ 12
-unfolding formed
+pub twelve : (s : List ℕ) → hasForm s ≡ true → length s ≡ 12
+unfolding hasForm
 twelve s e = go (eqb (length s) 12) _ _ _ (eqb-true (length s) 12) e
   where
     go : (a b c d : Bool) → (a ≡ true → length s ≡ 12) → a && b && c && d ≡ true → length s ≡ 12

@@ -15,8 +15,8 @@ allIn lo hi [] = true
 allIn lo hi (b ∷ bs) = leb lo (valueOf b) && (leb (valueOf b) hi && allIn lo hi bs)
 
 -- "two letters A to Z, nine of A to Z or 0 to 9, one check digit"
-unfoldable pub formed : List ℕ → Bool
-formed s = eqb (length s) 12 && allIn 10 35 (take 2 s) && allIn 0 35 (take 9 (drop 2 s)) && allIn 0 9 (take 1 (drop 11 s))
+unfoldable pub hasForm : List ℕ → Bool
+hasForm s = eqb (length s) 12 && allIn 10 35 (take 2 s) && allIn 0 35 (take 9 (drop 2 s)) && allIn 0 9 (take 1 (drop 11 s))
 
 -- a value "written as two digits" from 10 on, before the digits ds
 abbrev pub digitsOf : ℕ → List ℕ → List ℕ
@@ -41,14 +41,14 @@ twice [] = true
 twice (d ∷ ds) = not (twice ds)
 
 -- the doubled digits, and "The other digits are added as they are"
-unfoldable pub added : List ℕ → ℕ
+unfoldable pub digitSum : List ℕ → ℕ
 unfolding twice
-added [] = 0
-added (d ∷ ds) = weight (twice ds) d + added ds
+digitSum [] = 0
+digitSum (d ∷ ds) = weight (twice ds) d + digitSum ds
 
 -- the sum over the digits that characters are written as
 abbrev pub sumOf : List ℕ → ℕ
-sumOf s = added (expanded s)
+sumOf s = digitSum (expanded s)
 
 -- "The check digit brings the total to a multiple of ten": the total of "the expanded first eleven characters" and the check digit
 unfoldable pub total : List ℕ → ℕ
@@ -57,5 +57,5 @@ total s = sumOf (take 11 s) + valueOf (getD s 11 0)
 -- 4 identifier form, 5 check digit, 0 for an identifier that passes
 unfoldable pub verdictOf : List ℕ → ℕ
 verdictOf s =
-    cond (not (formed s)) 4
+    cond (not (hasForm s)) 4
     (cond (eqb (total s % 10) 0) 0 5)

@@ -2,7 +2,7 @@
 ghost use mathlib.Core.Path.{_≡_};
 ghost use Prim.Native.Nat.{_+_, _≤_, _<_};
 ghost use lib.ListN.{length};
-ghost use Rattle.isin.specs.Isin.{valueOf, weight, sumOf, allIn, formed, verdictOf};
+ghost use Rattle.isin.specs.Isin.{valueOf, weight, sumOf, allIn, hasForm, verdictOf};
 
 // A digit doubled, the digits of the doubled number added.
 const DOUBLED: [u8; 10] = [0, 2, 4, 6, 8, 1, 3, 5, 7, 9];
@@ -79,7 +79,7 @@ fn all_in(s: &[u8], lo: u8, hi: u8) -> bool
 
 // Two letters, nine letters or digits, one digit.
 fn has_form(id: &[u8]) -> bool
-    ensures { λ r. ⌜ r ≡ formed (now (id .entry)) ⌝ }
+    ensures { λ r. ⌜ r ≡ hasForm (now (id .entry)) ⌝ }
 {
     if id.len() != 12 {
         return false;

@@ -24,7 +24,8 @@ pub count-append : {A : Type 0} (p : A → Bool) (xs ys : List A) → count p (x
 count-append p [] ys = omega arith
 count-append p (x ∷ xs) ys = omega (arith, count-append p xs ys)
 
-pub count-delete : {A : Type 0} (p : A → Bool) (xs : List A) (i : ℕ) (d : A) → i < length xs → ind (p (getD xs i d)) + count p (without i xs) ≡ count p xs
+pub count-delete : {A : Type 0} (p : A → Bool) (xs : List A) (i : ℕ) (d : A) → i < length xs
+    → ind (p (getD xs i d)) + count p (without i xs) ≡ count p xs
 unfolding without
 count-delete p [] i d h = absurd (not-suc-le-zero h)
 count-delete p (x ∷ xs) zero d h = refl
@@ -66,7 +67,8 @@ every-at P (x ∷ xs) (suc i) d k h = every-at P xs i d (le-of-suc-le-suc k) (h 
 pub every-filter : {A : Type 0} (P : A → Type 0) (q : A → Bool) (xs : List A) → Every P xs → Every (λ x. P x × (q x ≡ true)) (filter q xs)
 unfolding filter
 every-filter P q [] h = tt
-every-filter P q (x ∷ xs) h = byBool (q x) (λ e. rw (e, filter) ((h .0, e), every-filter P q xs (h .1))) (λ e. rw (e, filter) (every-filter P q xs (h .1)))
+every-filter P q (x ∷ xs) h =
+    byBool (q x) (λ e. rw (e, filter) ((h .0, e), every-filter P q xs (h .1))) (λ e. rw (e, filter) (every-filter P q xs (h .1)))
 
 -- ---- what is dropped is not counted
 
@@ -83,7 +85,8 @@ count-filter p q (x ∷ xs) h =
 pub count-filter-le : {A : Type 0} (p q : A → Bool) (xs : List A) → count p (filter q xs) ≤ count p xs
 unfolding filter
 count-filter-le p q [] = omega arith
-count-filter-le p q (x ∷ xs) = byBool (q x) (λ e. rw (e, filter) (omega (arith, count-filter-le p q xs))) (λ e. rw (e, filter) (omega (arith, count-filter-le p q xs)))
+count-filter-le p q (x ∷ xs) =
+    byBool (q x) (λ e. rw (e, filter) (omega (arith, count-filter-le p q xs))) (λ e. rw (e, filter) (omega (arith, count-filter-le p q xs)))
 
 -- ---- sums
 
@@ -176,7 +179,8 @@ countTo-zero p zero h = refl
 countTo-zero p (suc n) h = rw (h n (omega arith)) (countTo-zero p n (λ i k. h i (omega arith)))
 
 -- q holds of one index more
-pub countTo-one : (p q : ℕ → Bool) (n b : ℕ) → b < n → p b ≡ false → q b ≡ true → ((i : ℕ) → i < n → i ≢ b → p i ≡ q i) → countTo q n ≡ suc (countTo p n)
+pub countTo-one : (p q : ℕ → Bool) (n b : ℕ) → b < n → p b ≡ false → q b ≡ true → ((i : ℕ) → i < n → i ≢ b → p i ≡ q i)
+    → countTo q n ≡ suc (countTo p n)
 unfolding countTo
 countTo-one p q zero b l e f h = absurd (not-suc-le-zero l)
 countTo-one p q (suc n) b l e f h =

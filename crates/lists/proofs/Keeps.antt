@@ -14,7 +14,8 @@ all-intro p (suc n) f = rw (all-intro p n (λ i h. f i (omega arith)), f n (omeg
 
 -- A loop of n turns: what holds before turn j holds, of the next, after it; and what every turn keeps.
 module _ {A : Type 0} (f : ℕ → A → A) where
-  up-turn : (P : ℕ → A → Type 0) (n : ℕ) → ((j : ℕ) (u : A) → j < n → P j u → P (suc j) (f j u)) → (x : A) → P 0 x → (i : ℕ) → i ≤ n → P i (upTo f i x)
+  up-turn : (P : ℕ → A → Type 0) (n : ℕ) → ((j : ℕ) (u : A) → j < n → P j u → P (suc j) (f j u)) → (x : A) → P 0 x → (i : ℕ) → i ≤ n
+      → P i (upTo f i x)
   unfolding upTo
   up-turn P n keeps x p zero h = p
   up-turn P n keeps x p (suc i) h = keeps i (upTo f i x) h (up-turn P n keeps x p i (omega arith))

@@ -10,7 +10,8 @@ use native.Mathlib.Numerals.{add-one}
 use native.Mathlib.Omega.{arith}
 use borrow.Author.Tests.{lt-ltb, le-ltb}
 use lib.Dec.{ltb}
-use lib.ListN.{length, getD, take, drop, set, replicate, length-take, length-append, length-replicate, length-drop, take-append-drop, drop-of-length-le, List·getD-append, getD-replicate}
+use lib.ListN.{length, getD, take, drop, set, replicate, length-take, length-append, length-replicate, length-drop, take-append-drop}
+use lib.ListN.{drop-of-length-le, List·getD-append, getD-replicate}
 use lib.Seq.{take-suc, drop-cons, set-append-seam, length-take-le, getD-append-add, getD-at, getD-drop, take-at, set-at, append-snoc, take-all}
 use Rattle.lists.proofs.Cases.{byEq}
 use Rattle.lists.specs.Scan.{all, least, filter, padTo, without, upTo, tabulate, countTo}
@@ -121,7 +122,8 @@ module _ {A : Type 0} (p : A → Bool) (ms : List A) (n : ℕ) (d : A) where
   unfolding filter
   kept-none = record { count = refl; slots = sym (pad-none n d); within = le-refl 0 }
 
-  pub kept-yes : (i w : ℕ) (out : List A) → Kept p ms n d i w out → i < length ms → w < n → p (getD ms i d) ≡ true → Kept p ms n d (i + 1) (w + 1) (set out w (getD ms i d))
+  pub kept-yes : (i w : ℕ) (out : List A) → Kept p ms n d i w out → i < length ms → w < n → p (getD ms i d) ≡ true
+      → Kept p ms n d (i + 1) (w + 1) (set out w (getD ms i d))
   kept-yes i w out k h l e =
       let c = k .count in
       let x : length (filter p (take i ms)) < n = omega arith in

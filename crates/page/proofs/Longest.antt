@@ -11,25 +11,25 @@ use Rattle.lists.proofs.Cases.{byBool}
 use Rattle.lists.proofs.Scans.{length-tabulate}
 use Rattle.text.specs.Text.{joined}
 use Rattle.text.proofs.Over.{joined-most}
-use Rattle.lines.specs.Lines.{entryLine}
-use Rattle.lines.proofs.Longest.{book-most, entry-most}
+use Rattle.page_lines.specs.Lines.{entryLine}
+use Rattle.page_lines.proofs.Longest.{book-most, entry-most}
 use Rattle.book.specs.Book.{identifierAt, bookVerdict}
 use Rattle.book.specs.Parts.{entryCount, identifierOf}
 use Rattle.table.specs.declared.Table.{Table}
 use Rattle.table.specs.Views.{jobAt}
 use Rattle.table.proofs.Views.{Sized}
 use Rattle.validity.specs.Validity.{tableOk}
-use Rattle.preservation.proofs.Ok.{ok}
-use Rattle.preservation.proofs.Passed.{facts}
-use Rattle.opening.specs.Opening.{openOf}
-use Rattle.opening.proofs.Counts as counts
+use Rattle.protocol_preservation.proofs.Ok.{ok}
+use Rattle.protocol_preservation.proofs.Passed.{facts}
+use Rattle.table_opening.specs.Opening.{openOf}
+use Rattle.table_opening.proofs.Counts as counts
 use Rattle.dispatcher.specs.Step.{runOf, answersOf}
-use Rattle.dispatcher.proofs.Kept.{run-ok, run-sized}
-use Rattle.run.specs.Run.{bytesMost, refusalsMost, eventAt, eventCount, eventsIn, refusals}
-use Rattle.run.proofs.Turns.{refusals-most}
+use Rattle.dispatcher.proofs.Preserved.{run-ok, run-sized}
+use Rattle.page_run.specs.Run.{bytesMost, refusalsMost, eventAt, eventCount, eventsIn, refusals}
+use Rattle.page_run.proofs.Turns.{refusals-most}
 use Rattle.page.specs.Page.{eventsOf, entriesText, runText, textFrom, pageOf, entriesMost, longest}
-use Rattle.opening.proofs.Shown.{opened-number}
-use Rattle.fresh.proofs.Passes.{opened-passes, opened-sized}
+use Rattle.table_opening.proofs.Shown.{opened-number}
+use Rattle.theorem_fresh.proofs.Passes.{opened-passes, opened-sized}
 use Rattle.page.proofs.Opened.{number-small}
 
 pub identifier-most : (book : List ℕ) (i : ℕ) → length (identifierOf book i) ≤ 12
@@ -47,7 +47,7 @@ lineOf book t i = entryLine (identifierOf book i) (jobAt t i)
 
 module _ (book : List ℕ) (t : Table) (s : Sized t) (h : tableOk t ≡ true) where
   pub replica-small : (i : ℕ) → i < 64 → jobAt t i .replica < 100
-  replica-small i l = let f = facts t s (ok t s h) in omega (arith, f .job i l .replica, f .bound-most)
+  replica-small i l = let f = facts t s (ok t s h) in omega (arith, f .job i l .replica, f .maxReplica-most)
 
   pub line-most : (i : ℕ) → i < 64 → length (lineOf book t i) ≤ 48
   line-most i l = omega (arith, entry-most (identifierOf book i) (jobAt t i) (replica-small i l), identifier-most book i)
@@ -57,7 +57,7 @@ module _ (book : List ℕ) (t : Table) (s : Sized t) (h : tableOk t ≡ true) wh
 
   pub entries-most : length (entriesText book t) ≤ entriesMost
   unfolding entriesText
-  entries-most = omega (arith, lines-most (entryCount book) (counts.entries-most book), counts.entries-most book)
+  entries-most = omega (arith, lines-most (entryCount book) (counts.entry-count-most book), counts.entry-count-most book)
 
 -- ---- the events
 

@@ -6,20 +6,21 @@ use native.Mathlib.Omega.{arith}
 use lib.Dec.{eqb, ltb}
 use lib.ListN.{length}
 use Rattle.lists.proofs.Cases.{cond-elim}
-use Rattle.isin.specs.Isin.{formed, total, verdictOf}
-use Rattle.term.specs.Term.{termOf, termNumber}
-use Rattle.term.specs.declared.Reading.{Reading}
-use Rattle.term.specs.declared.Reading.the-variants.{Faulty, Valid}
-use Rattle.book.specs.Book.{machinesOf, entriesOf, sizesInRange, identifierAt, termAt, repeated, faultAt, lowestFaulty, lowestFault, bookVerdict}
-use Rattle.opening.specs.Opening.{openOf}
-use Rattle.opening.proofs.Shown.{opened-number}
+use Rattle.isin.specs.Isin.{hasForm, total, verdictOf}
+use Rattle.book_term.specs.Term.{termOf, termNumber}
+use Rattle.book_term.specs.declared.Reading.{Reading}
+use Rattle.book_term.specs.declared.Reading.the-variants.{Faulty, Valid}
+use Rattle.book.specs.Book.{rawMachineCount, rawEntryCount, sizesInRange, identifierAt, termAt, repeated, faultAt, lowestFaulty, lowestFault}
+use Rattle.book.specs.Book.{bookVerdict}
+use Rattle.table_opening.specs.Opening.{openOf}
+use Rattle.table_opening.proofs.Shown.{opened-number}
 
 -- ---- the numbers of a book
 
 identifier-small : (s : List ℕ) → verdictOf s ≤ 7
 unfolding verdictOf
 identifier-small s =
-    cond-elim (λ n. n ≤ 7) (not (formed s)) 4 _ (omega arith)
+    cond-elim (λ n. n ≤ 7) (not (hasForm s)) 4 _ (omega arith)
     (cond-elim (λ n. n ≤ 7) (eqb (total s % 10) 0) 0 5 (omega arith) (omega arith))
 
 term-small : (r : Reading) → termNumber r ≤ 7
@@ -40,8 +41,8 @@ pub verdict-small : (s : List ℕ) → bookVerdict s ≤ 7
 unfolding bookVerdict
 verdict-small s =
     cond-elim (λ n. n ≤ 7) (ltb (length s) 4) 1 _ (omega arith)
-    (cond-elim (λ n. n ≤ 7) (not (sizesInRange (machinesOf s) (entriesOf s))) 2 _ (omega arith)
-    (cond-elim (λ n. n ≤ 7) (not (eqb (length s) (4 + 31 * entriesOf s))) 3 _ (omega arith) (lowest-small s (entriesOf s))))
+    (cond-elim (λ n. n ≤ 7) (not (sizesInRange (rawMachineCount s) (rawEntryCount s))) 2 _ (omega arith)
+    (cond-elim (λ n. n ≤ 7) (not (eqb (length s) (4 + 31 * rawEntryCount s))) 3 _ (omega arith) (lowest-small s (rawEntryCount s))))
 
 -- ---- opening it
 

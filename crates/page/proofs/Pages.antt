@@ -12,16 +12,16 @@ use lib.Seq.{take-all}
 use Rattle.lists.proofs.Cases.{byBool}
 use Rattle.text.specs.Text.{Written}
 use Rattle.text.proofs.Over.{then}
-use Rattle.lines.specs.Lines.{bookRefused, entryLine}
+use Rattle.page_lines.specs.Lines.{bookRefusedLine, entryLine}
 use Rattle.book.specs.Book.{bookVerdict}
 use Rattle.book.specs.Parts.{identifierOf}
 use Rattle.table.specs.declared.Table.{Table}
 use Rattle.table.specs.Views.{jobAt}
-use Rattle.opening.specs.Opening.{freshOf, openOf}
-use Rattle.opening.proofs.Shown.{opened-number, opened-table}
+use Rattle.table_opening.specs.Opening.{freshOf, openOf}
+use Rattle.table_opening.proofs.Shown.{opened-number, opened-table}
 use Rattle.dispatcher.specs.Step.{runOf, answersOf}
-use Rattle.run.specs.declared.Ran.{Ran}
-use Rattle.run.specs.Run.{bytesMost, eventsIn, refusals, Listed}
+use Rattle.page_run.specs.declared.Ran.{Ran}
+use Rattle.page_run.specs.Run.{bytesMost, eventsIn, refusals, Listed}
 use Rattle.page.specs.Page.{eventsOf, entriesText, runText, textFrom, pageOf, longest, bufferOf, printedOf}
 use Rattle.page.proofs.Longest.{lineOf, page-most}
 
@@ -54,7 +54,7 @@ printed-fits book events d =
 
 -- the page of a refused book, and that of an accepted one
 module _ (book events : List ℕ) {d : List ℕ} {e : List ℕ} {r : ℕ} (n : ℕ) (q : n ≡ bookVerdict book) where
-  pub refused-written : n ≢ 0 → Written d 0 (bookRefused n) e r → Written d 0 (pageOf book events) e r
+  pub refused-written : n ≢ 0 → Written d 0 (bookRefusedLine n) e r → Written d 0 (pageOf book events) e r
   unfolding pageOf
   refused-written h w =
       let m = q ∙ sym (opened-number book) in
@@ -73,7 +73,8 @@ pub few-bytes : (s : List ℕ) → length s < bytesMost → take (length s - 0) 
 few-bytes s h = take-all (length s - 0) s (omega arith) ∙ sym (take-all bytesMost s (omega arith))
 
 -- the line of an entry, whose identifier is that part of the book
-pub line-written : (book : List ℕ) (t : Table) (i : ℕ) (identifier : List ℕ) {e : List ℕ} {m : ℕ} {f : List ℕ} {r : ℕ} → identifier ≡ identifierOf book i
+pub line-written : (book : List ℕ) (t : Table) (i : ℕ) (identifier : List ℕ) {e : List ℕ} {m : ℕ} {f : List ℕ} {r : ℕ}
+    → identifier ≡ identifierOf book i
     → Written e m (entryLine identifier (jobAt t i)) f r → Written e m (lineOf book t i) f r
 line-written book t i identifier q w = rw q at w
 

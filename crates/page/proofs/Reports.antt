@@ -1,4 +1,5 @@
--- The page of an accepted book tells a run of which demand 3 holds; no other text does; and it is the front of the buffer that the function page leaves.
+-- The page of an accepted book tells a run of which demand 3 holds; no other text does;
+-- and it is the front of the buffer that the function page leaves.
 -- Assumes nothing.
 use Prim.Native.Nat.{ℕ, _+_, _≤_}
 use mathlib.Core.Path.{_≡_, sym, ap, _∙_}
@@ -11,8 +12,8 @@ use lib.Seq.{take-append-seam}
 use Rattle.lists.proofs.Cases.{byBool}
 use Rattle.text.specs.Text.{over}
 use Rattle.book.specs.Book.{bookVerdict}
-use Rattle.opening.specs.Opening.{openOf}
-use Rattle.opening.proofs.Shown.{opened-number}
+use Rattle.table_opening.specs.Opening.{openOf}
+use Rattle.table_opening.proofs.Shown.{opened-number}
 use Rattle.dispatcher.specs.Step.{runOf, answersOf}
 use Rattle.claims.proofs.Demand3.{demand-3}
 use Rattle.claims.proofs.Only.{only}
@@ -43,7 +44,8 @@ module _ (book events : List ℕ) where
     page-front h = rw (le-ltb (length d) longest h) (take-append-seam (pageOf book events) (drop (0 + length (pageOf book events)) d))
 
     -- the page is the front of a buffer that is long enough
-    pub page-part : longest ≤ length d → (k : ℕ) (x : List ℕ) → k ≡ length (pageOf book events) → x ≡ bufferOf book events d → take k x ≡ pageOf book events
+    pub page-part : longest ≤ length d → (k : ℕ) (x : List ℕ) → k ≡ length (pageOf book events) → x ≡ bufferOf book events d
+        → take k x ≡ pageOf book events
     page-part h k x n q = rw (n, q) (page-front h)
 
     pub printed-length : longest ≤ length d → printedOf book events d .length ≡ length (pageOf book events)

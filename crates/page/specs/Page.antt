@@ -6,14 +6,14 @@ use mathlib.Core.List.{List, _++_}
 use lib.Dec.{eqb, ltb}
 use lib.ListN.{length, take}
 use Rattle.text.specs.Text.{over, joined}
-use Rattle.lines.specs.Lines.{bookRefused, entryLine}
+use Rattle.page_lines.specs.Lines.{bookRefusedLine, entryLine}
 use Rattle.book.specs.Parts.{entryCount, identifierOf}
 use Rattle.table.specs.declared.Table.{Table}
 use Rattle.table.specs.Views.{jobAt}
-use Rattle.opening.specs.Opening.{openOf}
+use Rattle.table_opening.specs.Opening.{openOf}
 use Rattle.dispatcher.specs.Step.{runOf, answersOf}
 use Rattle.claims.specs.Claims.{Demand3}
-use Rattle.run.specs.Run.{bytesMost, refusalsMost, eventsIn, refusals}
+use Rattle.page_run.specs.Run.{bytesMost, refusalsMost, eventsIn, refusals}
 use Rattle.page.specs.declared.Printed.{Printed}
 
 -- "events.bin (at most 60,000 bytes; later ones are not read)"
@@ -24,8 +24,8 @@ eventsOf file = eventsIn (take bytesMost file)
 unfoldable pub entriesText : List ℕ → Table → List ℕ
 entriesText book t = joined (λ i. entryLine (identifierOf book i) (jobAt t i)) (entryCount book)
 
--- "Otherwise each refused event prints a line .. Then each entry prints a line": by the numbers that the events were answered, from place 1 on, and by the
--- table after them
+-- "Otherwise each refused event prints a line .. Then each entry prints a line": by the numbers that the events were answered, from place 1 on, and
+-- by the table after them
 unfoldable pub runText : List ℕ → List ℕ → Table → List ℕ
 runText book numbers t = refusals 1 numbers ++ entriesText book t
 
@@ -37,7 +37,7 @@ textFrom book t events = runText book (answersOf t events) (runOf t events)
 unfoldable pub pageOf : List ℕ → List ℕ → List ℕ
 pageOf book events =
     cond (eqb (openOf book .number) 0) (textFrom book (openOf book .table) (eventsOf events))
-    (bookRefused (openOf book .number))
+    (bookRefusedLine (openOf book .number))
 
 -- the lines of 64 entries, at most 48 bytes each
 abbrev pub entriesMost : ℕ
@@ -58,8 +58,8 @@ printedOf book events out =
     cond (ltb (length out) longest) (record { written = false; length = 0 })
     (record { written = true; length = length (pageOf book events) })
 
--- what is promised of the text for an accepted book: it tells numbers and a table of which demand 3 holds. These are then the ones that the run answered
--- and returned, and no text but the page tells them (`reported-only`, proofs/Reports.antt)
+-- what is promised of the text for an accepted book: it tells numbers and a table of which demand 3 holds. These are then the ones that the run
+-- answered and returned, and no text but the page tells them (`reported-only`, proofs/Reports.antt)
 pub record Reported (book : List ℕ) (events : List (List ℕ)) (text : List ℕ) : Type 0 where
   pub numbers : List ℕ
   pub table : Table

@@ -6,7 +6,7 @@ ghost use lib.ListN.{length, take};
 ghost use Rattle.text.specs.Text.{Written};
 ghost use Rattle.book.specs.Book.{bookVerdict};
 ghost use Rattle.validity.specs.Validity.{tableOk};
-ghost use Rattle.run.specs.Run.{bytesMost, eventsIn};
+ghost use Rattle.page_run.specs.Run.{bytesMost, eventsIn};
 ghost use Rattle.page.specs.Page.{eventsOf, entriesText, textFrom, pageOf, entriesMost, longest, bufferOf, printedOf, Reported};
 use table::Table;
 
@@ -33,7 +33,7 @@ fn put_entries(book: &[u8], t: Table, out: &mut [u8], at: usize) -> usize
     let mut i: usize = 0;
     while i < n {
         let v = t.jobs[i];
-        end = lines::put_entry(out, end, book::identifier_at(book, i), v);
+        end = page_lines::put_entry(out, end, book::identifier_at(book, i), v);
         i += 1;
     }
     end
@@ -45,7 +45,7 @@ fn put_run(book: &[u8], t: Table, events: &[u8], out: &mut [u8]) -> usize
     requires { ⌜ (length (now events) ≤ bytesMost) × (longest ≤ length (now out)) ⌝ }
     ensures { λ r. ⌜ Written (now (out .entry)) 0 (textFrom (now (book .entry)) t (eventsIn (now (events .entry)))) (now (out .exit)) r ⌝ }
 {
-    let ran = run::run(t, events, out);
+    let ran = page_run::run(t, events, out);
     let u = ran.table;
     let at = ran.length;
     put_entries(book, u, out, at)
@@ -61,12 +61,13 @@ fn first_bytes(events: &[u8]) -> &[u8]
     &events[0..BYTES_MOST]
 }
 
-// Writes the page of a book and a list of events to the front of the buffer, which is refused and left unchanged where it is shorter than LONGEST. What is
-// written for an accepted book tells a run of which demand 3 holds.
+// Writes the page of a book and a list of events to the front of the buffer, which is refused and left unchanged where it is shorter than LONGEST.
+// What is written for an accepted book tells a run of which demand 3 holds.
 pub fn page(book: &[u8], events: &[u8], out: &mut [u8]) -> Printed
     ensures { λ r. ⌜ r ≡ printedOf (now (book .entry)) (now (events .entry)) (now (out .entry)) ⌝ }
     ensures { λ _. ⌜ now (out .exit) ≡ bufferOf (now (book .entry)) (now (events .entry)) (now (out .entry)) ⌝ }
-    ensures { λ r. ⌜ (bookVerdict (now (book .entry)) ≡ 0 → r .written ≡ true → Reported (now (book .entry)) (eventsOf (now (events .entry))) (take (r .length) (now (out .exit)))) ⌝ }
+    ensures { λ r. ⌜ (bookVerdict (now (book .entry)) ≡ 0 → r .written ≡ true
+        → Reported (now (book .entry)) (eventsOf (now (events .entry))) (take (r .length) (now (out .exit)))) ⌝ }
 {
     if out.len() < LONGEST {
         return Printed {
@@ -76,13 +77,13 @@ pub fn page(book: &[u8], events: &[u8], out: &mut [u8]) -> Printed
     }
     let number = book::verdict(book);
     if number != 0 {
-        let end = lines::put_book_refused(out, 0, number as u64);
+        let end = page_lines::put_book_refused(out, 0, number as u64);
         return Printed {
             written: true,
             length: end,
         };
     }
-    let t = opening::fresh(book);
+    let t = table_opening::fresh(book);
     let end = put_run(book, t, first_bytes(events), out);
     Printed {
         written: true,

@@ -1,6 +1,6 @@
 -- d = 1 + y / k is finite and above zero for every y from -1/2 to 1 and every k from 1 on, and a quotient of a float that is not negative by such a k
--- is not negative. The bounds are wider than the book's, whose yields start at 0 and whose k is 2, so that a wider range or another number of payments
--- in a year changes no argument here. Assumes nothing.
+-- is not negative. The bounds are wider than the book's, whose yields start at 0 and whose k is 2, so that a wider range or another number of
+-- payments in a year changes no argument here. Assumes nothing.
 use mathlib.Core.Path.{_≡_, refl, sym, ap, _∙_, subst}
 use mathlib.Core.Logic.{_⊎_, inl, inr}
 use mathlib.Core.Bool.{Bool, true, false, not, _&&_, _||_, cond}
@@ -17,7 +17,7 @@ use lib.Ieee.Exact.{HasValue, round-exact}
 use lib.Ieee.Order.{round-mono}
 use lib.Ieee.Positive.{positive, between}
 use Rattle.pricer.specs.Price.{one}
-use Rattle.pricer.proofs.Signs.{plus, calm, plus-calm, round-plus, not-zero, minus, sum-is}
+use Rattle.pricer.proofs.Signs.{positiveOrZero, nonNegative, positiveOrZero-nonNegative, round-positiveOrZero, not-zero, minus, sum-is}
 
 -- ---- d = 1 + q is finite and above zero for q from -1/2 to 1
 abbrev pub Small : Float → Type 0
@@ -27,17 +27,21 @@ Small (fin false m e) = m * up e ≤ down e
 Small (fin true m e) = 2 * (m * up e) ≤ down e
 
 -- a / c lies from p / q to r / t, which round to values above zero
-mid : (p q r t a c : ℕ) → 0 < q → 0 < t → 0 < c → T (positive (round binary64 false p q)) → T (positive (round binary64 false r t)) → p * c ≤ a * q → a * t ≤ r * c
+mid : (p q r t a c : ℕ) → 0 < q → 0 < t → 0 < c → T (positive (round binary64 false p q)) → T (positive (round binary64 false r t)) → p * c ≤ a * q
+    → a * t ≤ r * c
     → T (positive (round binary64 false a c))
 mid p q r t a c Q R C x y h k =
-    between (round binary64 false p q) (round binary64 false a c) (round binary64 false r t) x y (round-mono binary64 p q a c Q C h) (round-mono binary64 a c r t C R k)
+    between (round binary64 false p q) (round binary64 false a c) (round binary64 false r t) x y (round-mono binary64 p q a c Q C h)
+    (round-mono binary64 a c r t C R k)
 
 -- from 1 to 2, and from 1/2 to 1
 upper : (n d : ℕ) → 0 < d → n ≤ d → T (positive (round binary64 false (1 * d + n * 1) (1 * d)))
-upper n d D h = mid 1 1 2 1 (1 * d + n * 1) (1 * d) (omega arith) (omega arith) (omega arith) (unfold round in tt) (unfold round in tt) (omega arith) (omega arith)
+upper n d D h = mid 1 1 2 1 (1 * d + n * 1) (1 * d) (omega arith) (omega arith) (omega arith) (unfold round in tt) (unfold round in tt) (omega arith)
+    (omega arith)
 
 lower : (n d : ℕ) → 0 < d → 2 * n ≤ d → T (positive (round binary64 false (1 * d - n * 1) (1 * d)))
-lower n d D h = mid 1 2 1 1 (1 * d - n * 1) (1 * d) (omega arith) (omega arith) (omega arith) (unfold round in tt) (unfold round in tt) (omega arith) (omega arith)
+lower n d D h = mid 1 2 1 1 (1 * d - n * 1) (1 * d) (omega arith) (omega arith) (omega arith) (unfold round in tt) (unfold round in tt) (omega arith)
+    (omega arith)
 
 under : (n d : ℕ) → 2 * n ≤ d → n * 1 ≤ 1 * d
 under n d h = omega arith
@@ -46,9 +50,11 @@ pub one-plus : (q : Float) → Small q → T (positive (add binary64 one q))
 unfolding add
 one-plus nan h = absurd h
 one-plus (inf s) h = absurd h
-one-plus (fin false m e) h = subst (λ (z : Float). T (positive z)) (sym (sum-is (1 * down e) (m * up e * 1) (1 * down e))) (upper (m * up e) (down e) (down-pos e) h)
+one-plus (fin false m e) h =
+    subst (λ (z : Float). T (positive z)) (sym (sum-is (1 * down e) (m * up e * 1) (1 * down e))) (upper (m * up e) (down e) (down-pos e) h)
 one-plus (fin true m e) h =
-    subst (λ (z : Float). T (positive z)) (sym (minus (1 * down e) (m * up e * 1) (1 * down e) (under (m * up e) (down e) h))) (lower (m * up e) (down e) (down-pos e) h)
+    subst (λ (z : Float). T (positive z)) (sym (minus (1 * down e) (m * up e * 1) (1 * down e) (under (m * up e) (down e) h)))
+    (lower (m * up e) (down e) (down-pos e) h)
 
 -- ---- a quotient of a small number by 1 or more is small
 -- the sign goes through rounding
@@ -81,7 +87,7 @@ at-one n d h = omega arith
 at-half : (n d : ℕ) → n * 2 ≤ 1 * d → 2 * n ≤ d
 at-half n d h = omega arith
 
-below-one : (x : Float) → T (plus x) → T (le x (fin false 1 (pos 0))) → Small x
+below-one : (x : Float) → T (positiveOrZero x) → T (le x (fin false 1 (pos 0))) → Small x
 unfolding le
 below-one nan p h = absurd p
 below-one (inf true) p h = absurd p
@@ -89,7 +95,7 @@ below-one (inf false) p h = absurd h
 below-one (fin true m e) p h = absurd p
 below-one (fin false m e) p h = at-one (m * up e) (down e) (or-le (m * up e * 1) (1 * down e) h)
 
-below-half : (x : Float) → T (plus x) → T (le x (fin false 1 (negsuc 0))) → Small (neg x)
+below-half : (x : Float) → T (positiveOrZero x) → T (le x (fin false 1 (negsuc 0))) → Small (neg x)
 unfolding le neg
 below-half nan p h = absurd p
 below-half (inf true) p h = absurd p
@@ -113,13 +119,13 @@ half-side a c h = omega arith
 
 small-up : (a c : ℕ) → 0 < c → a ≤ c → Small (round binary64 false a c)
 small-up a c C h =
-    below-one (round binary64 false a c) (round-plus a c)
+    below-one (round binary64 false a c) (round-positiveOrZero a c)
     (subst (λ (z : Float). T (le (round binary64 false a c) z)) round-one (round-mono binary64 a c 1 1 C (pow-pos 0) (one-side a c h)))
 
 small-down : (a c : ℕ) → 0 < c → 2 * a ≤ c → Small (round binary64 true a c)
 small-down a c C h =
     subst Small (sym (neg-round a c))
-    (below-half (round binary64 false a c) (round-plus a c)
+    (below-half (round binary64 false a c) (round-positiveOrZero a c)
     (subst (λ (z : Float). T (le (round binary64 false a c) z)) round-half (round-mono binary64 a c 1 2 C (pow-pos 1) (half-side a c h))))
 
 -- x / de is small, and n / dd is 1 or more
@@ -130,13 +136,13 @@ cross-half : (x de n dd : ℕ) → 2 * x ≤ de → dd ≤ n → 2 * (x * dd) �
 cross-half x de n dd h k = le-trans (le-of-eq (sym (mul-assoc 2 x dd))) (le-trans (mul-le-mul h k) (le-of-eq (mul-comm de n)))
 
 -- a divisor k ≥ 1
-abbrev pub Whole : Float → Type 0
-Whole nan = ⊥
-Whole (inf s) = ⊥
-Whole (fin true n d) = ⊥
-Whole (fin false n d) = (0 < n) × (down d ≤ n * up d)
+abbrev pub AtLeastOne : Float → Type 0
+AtLeastOne nan = ⊥
+AtLeastOne (inf s) = ⊥
+AtLeastOne (fin true n d) = ⊥
+AtLeastOne (fin false n d) = (0 < n) × (down d ≤ n * up d)
 
-pub small-div : (y k : Float) → Small y → Whole k → Small (div binary64 y k)
+pub small-div : (y k : Float) → Small y → AtLeastOne k → Small (div binary64 y k)
 unfolding div
 small-div nan k h w = absurd h
 small-div (inf s) k h w = absurd h
@@ -145,10 +151,12 @@ small-div (fin s m e) (inf t) h w = absurd w
 small-div (fin s m e) (fin true n d) h w = absurd w
 small-div (fin false m e) (fin false n d) h w =
     subst Small (sym (cond-no (eqb n 0) _ _ (not-zero n (w .0))))
-    (small-up (m * up e * down d) (n * up d * down e) (mul-pos (mul-pos (w .0) (up-pos d)) (down-pos e)) (cross (m * up e) (down e) (n * up d) (down d) h (w .1)))
+    (small-up (m * up e * down d) (n * up d * down e) (mul-pos (mul-pos (w .0) (up-pos d)) (down-pos e))
+    (cross (m * up e) (down e) (n * up d) (down d) h (w .1)))
 small-div (fin true m e) (fin false n d) h w =
     subst Small (sym (cond-no (eqb n 0) _ _ (not-zero n (w .0))))
-    (small-down (m * up e * down d) (n * up d * down e) (mul-pos (mul-pos (w .0) (up-pos d)) (down-pos e)) (cross-half (m * up e) (down e) (n * up d) (down d) h (w .1)))
+    (small-down (m * up e * down d) (n * up d * down e) (mul-pos (mul-pos (w .0) (up-pos d)) (down-pos e))
+    (cross-half (m * up e) (down e) (n * up d) (down d) h (w .1)))
 
 -- ---- what the range says
 no-mantissa : (m u d : ℕ) → 0 < u → 0 * d ≡ m * u * 1 → m ≡ 0
@@ -157,30 +165,37 @@ no-mantissa m u d U h = elim (eq-zero-or-pos m) [ inl z ↦ z | inr p ↦ absurd
     clash : (x : ℕ) → 0 < x → x * 1 ≡ 0 → ⊥
     clash x h e = omega arith
 
-pub calm-of : (x : Float) → T (le (fin false 0 (pos 0)) x) → T (calm x)
+pub nonNegative-of : (x : Float) → T (le (fin false 0 (pos 0)) x) → T (nonNegative x)
 unfolding le
-calm-of nan h = absurd h
-calm-of (inf true) h = absurd h
-calm-of (inf false) h = tt
-calm-of (fin false m e) h = tt
-calm-of (fin true m e) h = eq→eqb (no-mantissa m (up e) (down e) (up-pos e) (eqb→eq (0 * down e) (m * up e * 1) (and-l (eqb (0 * down e) (m * up e * 1)) (eqb (0 * down e) 0) h)))
+nonNegative-of nan h = absurd h
+nonNegative-of (inf true) h = absurd h
+nonNegative-of (inf false) h = tt
+nonNegative-of (fin false m e) h = tt
+nonNegative-of (fin true m e) h =
+    eq→eqb (no-mantissa m (up e) (down e) (up-pos e)
+    (eqb→eq (0 * down e) (m * up e * 1) (and-l (eqb (0 * down e) (m * up e * 1)) (eqb (0 * down e) 0) h)))
 
 -- a number that is not below zero and at most 1 is small
-pub small-from-zero : (y : Float) → T (calm y) → T (le y one) → Small y
+pub small-from-zero : (y : Float) → T (nonNegative y) → T (le y one) → Small y
 unfolding le
 small-from-zero nan h k = absurd h
 small-from-zero (inf true) h k = absurd h
 small-from-zero (inf false) h k = absurd k
 small-from-zero (fin false m e) h k = at-one (m * up e) (down e) (or-le (m * up e * 1) (1 * down e) k)
-small-from-zero (fin true m e) h k = subst (λ (x : ℕ). 2 * (x * up e) ≤ down e) (sym (eqb→eq m 0 h)) (subst (λ (x : ℕ). 2 * x ≤ down e) (sym (zero-mul (up e))) zero-le)
+small-from-zero (fin true m e) h k =
+    subst (λ (x : ℕ). 2 * (x * up e) ≤ down e) (sym (eqb→eq m 0 h)) (subst (λ (x : ℕ). 2 * x ≤ down e) (sym (zero-mul (up e))) zero-le)
 
 -- ---- a quotient of what is not below zero by 1 or more is not below zero
-zero-value : (x : Float) (a c : ℕ) → 0 < c → a ≡ 0 → HasValue x true a c → T (calm x)
+zero-value : (x : Float) (a c : ℕ) → 0 < c → a ≡ 0 → HasValue x true a c → T (nonNegative x)
 zero-value nan a c C z h = absurd h
 zero-value (inf s) a c C z h = absurd h
 zero-value (fin false m e) a c C z h = tt
 zero-value (fin true m e) a c C z h =
-    eq→eqb {a = m} {b = 0} (elim (eq-zero-or-pos m) [ inl q ↦ q | inr p ↦ absurd (clash (m * up e * c) (mul-pos (mul-pos p (up-pos e)) C) (h .1 ∙ ap (λ (x : ℕ). x * down e) z ∙ zero-mul (down e))) ])
+    eq→eqb {a = m} {b = 0} (elim (eq-zero-or-pos m) [
+      | inl q ↦ q
+      | inr p ↦ absurd
+          (clash (m * up e * c) (mul-pos (mul-pos p (up-pos e)) C) (h .1 ∙ ap (λ (x : ℕ). x * down e) z ∙ zero-mul (down e)))
+    ])
   where
     clash : (x : ℕ) → 0 < x → x ≡ 0 → ⊥
     clash x h e = omega arith
@@ -188,35 +203,38 @@ zero-value (fin true m e) a c C z h =
 nothing : (a w c : ℕ) → a ≡ 0 → a * w ≡ 0 * 1 * c
 nothing a w c z = ap (λ (x : ℕ). x * w) z ∙ zero-mul w ∙ sym (zero-mul c)
 
-round-zero : (a c : ℕ) → 0 < c → a ≡ 0 → T (calm (round binary64 true a c))
-round-zero a c C z = zero-value (round binary64 true a c) a c C z (round-exact binary64 true a c 0 0 C (pow-pos 53) (pow-pos 2098) (nothing a (2 ^ 1074) c z))
+round-zero : (a c : ℕ) → 0 < c → a ≡ 0 → T (nonNegative (round binary64 true a c))
+round-zero a c C z =
+    zero-value (round binary64 true a c) a c C z (round-exact binary64 true a c 0 0 C (pow-pos 53) (pow-pos 2098) (nothing a (2 ^ 1074) c z))
 
 zero-product : (m u d : ℕ) → m ≡ 0 → m * u * d ≡ 0
 zero-product m u d z = ap (λ (x : ℕ). x * u * d) z ∙ ap (λ (x : ℕ). x * d) (zero-mul u) ∙ zero-mul d
 
-pub div-calm : (c k : Float) → T (calm c) → Whole k → T (calm (div binary64 c k))
+pub div-nonNegative : (c k : Float) → T (nonNegative c) → AtLeastOne k → T (nonNegative (div binary64 c k))
 unfolding div
-div-calm nan k h w = absurd h
-div-calm (inf s) nan h w = absurd w
-div-calm (inf s) (inf t) h w = absurd w
-div-calm (inf s) (fin true n d) h w = absurd w
-div-calm (inf true) (fin false n d) h w = absurd h
-div-calm (inf false) (fin false n d) h w = tt
-div-calm (fin s m e) nan h w = absurd w
-div-calm (fin s m e) (inf t) h w = absurd w
-div-calm (fin s m e) (fin true n d) h w = absurd w
-div-calm (fin false m e) (fin false n d) h w =
-    subst (λ (z : Float). T (calm z)) (sym (cond-no (eqb n 0) _ _ (not-zero n (w .0))))
-    (plus-calm (round binary64 false (m * up e * down d) (n * up d * down e)) (round-plus (m * up e * down d) (n * up d * down e)))
-div-calm (fin true m e) (fin false n d) h w =
-    subst (λ (z : Float). T (calm z)) (sym (cond-no (eqb n 0) _ _ (not-zero n (w .0))))
-    (round-zero (m * up e * down d) (n * up d * down e) (mul-pos (mul-pos (w .0) (up-pos d)) (down-pos e)) (zero-product m (up e) (down d) (eqb→eq m 0 h)))
+div-nonNegative nan k h w = absurd h
+div-nonNegative (inf s) nan h w = absurd w
+div-nonNegative (inf s) (inf t) h w = absurd w
+div-nonNegative (inf s) (fin true n d) h w = absurd w
+div-nonNegative (inf true) (fin false n d) h w = absurd h
+div-nonNegative (inf false) (fin false n d) h w = tt
+div-nonNegative (fin s m e) nan h w = absurd w
+div-nonNegative (fin s m e) (inf t) h w = absurd w
+div-nonNegative (fin s m e) (fin true n d) h w = absurd w
+div-nonNegative (fin false m e) (fin false n d) h w =
+    subst (λ (z : Float). T (nonNegative z)) (sym (cond-no (eqb n 0) _ _ (not-zero n (w .0))))
+    (positiveOrZero-nonNegative (round binary64 false (m * up e * down d) (n * up d * down e))
+    (round-positiveOrZero (m * up e * down d) (n * up d * down e)))
+div-nonNegative (fin true m e) (fin false n d) h w =
+    subst (λ (z : Float). T (nonNegative z)) (sym (cond-no (eqb n 0) _ _ (not-zero n (w .0))))
+    (round-zero (m * up e * down d) (n * up d * down e) (mul-pos (mul-pos (w .0) (up-pos d)) (down-pos e))
+    (zero-product m (up e) (down d) (eqb→eq m 0 h)))
 
 -- ---- the divisor
 
-pub divisor-any : (y k : Float) → Small y → Whole k → T (positive (add binary64 one (div binary64 y k)))
+pub divisor-any : (y k : Float) → Small y → AtLeastOne k → T (positive (add binary64 one (div binary64 y k)))
 divisor-any y k h w = one-plus (div binary64 y k) (small-div y k h w)
 
 -- 2 payments in a year
-pub whole-two : Whole (fin false 1 (pos 1))
-whole-two = (lit< tt, lit≤ tt)
+pub atLeastOne-two : AtLeastOne (fin false 1 (pos 1))
+atLeastOne-two = (lit< tt, lit≤ tt)

@@ -25,9 +25,10 @@ le-real lo (fin s m e) h = tt
 
 terms-real : (t : Terms) → termsInRange t ≡ true → RatesReal t
 terms-real (Zero y) h = le-real _ y (and-left _ _ h)
-terms-real (Fixed c y) h =
-    (le-real _ c (and-left _ _ (and-left (couponInRange c) (yieldInRange y) h)),
-    le-real _ y (and-left _ _ (and-right (couponInRange c) (yieldInRange y) h)))
+terms-real (Fixed c y) h = (
+  le-real _ c (and-left _ _ (and-left (couponInRange c) (yieldInRange y) h)),
+  le-real _ y (and-left _ _ (and-right (couponInRange c) (yieldInRange y) h)),
+)
 
 pub rates-real : (b : Bond) → inRange b ≡ true → RatesReal (b .terms)
 unfolding inRange

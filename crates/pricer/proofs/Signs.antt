@@ -16,45 +16,45 @@ use lib.Ieee.Positive.{positive}
 -- ---- the two notions
 
 -- not a NaN, and its sign is not negative; an infinity may be
-abbrev pub plus : Float → Bool
-plus nan = false
-plus (inf s) = not s
-plus (fin s m e) = not s
+abbrev pub positiveOrZero : Float → Bool
+positiveOrZero nan = false
+positiveOrZero (inf s) = not s
+positiveOrZero (fin s m e) = not s
 
 -- the same, or -0
-abbrev pub calm : Float → Bool
-calm nan = false
-calm (inf s) = not s
-calm (fin false m e) = true
-calm (fin true m e) = eqb m 0
+abbrev pub nonNegative : Float → Bool
+nonNegative nan = false
+nonNegative (inf s) = not s
+nonNegative (fin false m e) = true
+nonNegative (fin true m e) = eqb m 0
 
-pub plus-calm : (x : Float) → T (plus x) → T (calm x)
-plus-calm nan p = absurd p
-plus-calm (inf s) p = p
-plus-calm (fin false m e) p = tt
-plus-calm (fin true m e) p = absurd p
+pub positiveOrZero-nonNegative : (x : Float) → T (positiveOrZero x) → T (nonNegative x)
+positiveOrZero-nonNegative nan p = absurd p
+positiveOrZero-nonNegative (inf s) p = p
+positiveOrZero-nonNegative (fin false m e) p = tt
+positiveOrZero-nonNegative (fin true m e) p = absurd p
 
-pub plus-no-nan : (x : Float) → T (plus x) → T (not (isNan x))
+pub positiveOrZero-no-nan : (x : Float) → T (positiveOrZero x) → T (not (isNan x))
 unfolding isNan
-plus-no-nan nan p = absurd p
-plus-no-nan (inf s) p = tt
-plus-no-nan (fin s m e) p = tt
+positiveOrZero-no-nan nan p = absurd p
+positiveOrZero-no-nan (inf s) p = tt
+positiveOrZero-no-nan (fin s m e) p = tt
 
-odd-plus : (d q k l : ℕ) → T (plus (odd d false q k l))
+odd-positiveOrZero : (d q k l : ℕ) → T (positiveOrZero (odd d false q k l))
 unfolding odd
-odd-plus d zero k l = tt
-odd-plus d (suc q) k l = tt
+odd-positiveOrZero d zero k l = tt
+odd-positiveOrZero d (suc q) k l = tt
 
-units-plus : (q k : ℕ) → T (plus (units binary64 false q k))
+units-positiveOrZero : (q k : ℕ) → T (positiveOrZero (units binary64 false q k))
 unfolding units
-units-plus q k = go (ltb (q * _) _)
+units-positiveOrZero q k = go (ltb (q * _) _)
   where
-    go : (b : Bool) → T (plus (cond b (odd (suc (prec binary64)) false q k (low binary64)) (inf false)))
-    go true = odd-plus _ q k _
+    go : (b : Bool) → T (positiveOrZero (cond b (odd (suc (prec binary64)) false q k (low binary64)) (inf false)))
+    go true = odd-positiveOrZero _ q k _
     go false = tt
 
-pub round-plus : (a c : ℕ) → T (plus (round binary64 false a c))
-round-plus a c = subst (λ (z : Float). T (plus z)) (sym (round-is binary64 false a c)) (units-plus _ _)
+pub round-positiveOrZero : (a c : ℕ) → T (positiveOrZero (round binary64 false a c))
+round-positiveOrZero a c = subst (λ (z : Float). T (positiveOrZero z)) (sym (round-is binary64 false a c)) (units-positiveOrZero _ _)
 
 -- ---- rounding, division and addition keep a float so
 pub not-zero : (n : ℕ) → 0 < n → T (not (eqb n 0))
@@ -63,20 +63,21 @@ not-zero n h = not-T (eqb n 0) (λ u. differ n h (eqb→eq n 0 u))
     differ : (n : ℕ) → 0 < n → n ≡ 0 → ⊥
     differ n h e = omega arith
 
-pub div-plus : (p d : Float) → T (plus p) → T (positive d) → T (plus (div binary64 p d))
+pub div-positiveOrZero : (p d : Float) → T (positiveOrZero p) → T (positive d) → T (positiveOrZero (div binary64 p d))
 unfolding div
-div-plus nan d h k = absurd h
-div-plus (inf true) d h k = absurd h
-div-plus (inf false) nan h k = absurd k
-div-plus (inf false) (inf t) h k = absurd k
-div-plus (inf false) (fin true n d) h k = absurd k
-div-plus (inf false) (fin false n d) h k = tt
-div-plus (fin true m e) d h k = absurd h
-div-plus (fin false m e) nan h k = absurd k
-div-plus (fin false m e) (inf t) h k = absurd k
-div-plus (fin false m e) (fin true n d) h k = absurd k
-div-plus (fin false m e) (fin false n d) h k =
-    subst (λ (z : Float). T (plus z)) (sym (cond-no (eqb n 0) _ _ (not-zero n (ltb→lt 0 n k)))) (round-plus (m * up e * down d) (n * up d * down e))
+div-positiveOrZero nan d h k = absurd h
+div-positiveOrZero (inf true) d h k = absurd h
+div-positiveOrZero (inf false) nan h k = absurd k
+div-positiveOrZero (inf false) (inf t) h k = absurd k
+div-positiveOrZero (inf false) (fin true n d) h k = absurd k
+div-positiveOrZero (inf false) (fin false n d) h k = tt
+div-positiveOrZero (fin true m e) d h k = absurd h
+div-positiveOrZero (fin false m e) nan h k = absurd k
+div-positiveOrZero (fin false m e) (inf t) h k = absurd k
+div-positiveOrZero (fin false m e) (fin true n d) h k = absurd k
+div-positiveOrZero (fin false m e) (fin false n d) h k =
+    subst (λ (z : Float). T (positiveOrZero z)) (sym (cond-no (eqb n 0) _ _ (not-zero n (ltb→lt 0 n k))))
+    (round-positiveOrZero (m * up e * down d) (n * up d * down e))
 
 -- a / c - b / c for b up to a
 pub minus : (a b c : ℕ) → b ≤ a → sum binary64 false a true b c ≡ round binary64 false (a - b) c
@@ -92,21 +93,24 @@ unfolding sum
 sum-is a b c = refl
 
 none : (m x y a : ℕ) → m ≡ 0 → m * x * y ≤ a
-none m x y a h = subst (λ (k : ℕ). k * x * y ≤ a) (sym h) (subst (λ (k : ℕ). k * y ≤ a) (sym (zero-mul x)) (subst (λ (k : ℕ). k ≤ a) (sym (zero-mul y)) (omega arith)))
+none m x y a h = subst (λ (k : ℕ). k * x * y ≤ a) (sym h)
+    (subst (λ (k : ℕ). k * y ≤ a) (sym (zero-mul x)) (subst (λ (k : ℕ). k ≤ a) (sym (zero-mul y)) (omega arith)))
 
-pub add-plus : (p h : Float) → T (plus p) → T (calm h) → T (plus (add binary64 p h))
+pub add-positiveOrZero : (p h : Float) → T (positiveOrZero p) → T (nonNegative h) → T (positiveOrZero (add binary64 p h))
 unfolding add
-add-plus nan h p k = absurd p
-add-plus (inf true) h p k = absurd p
-add-plus (inf false) nan p k = absurd k
-add-plus (inf false) (inf true) p k = absurd k
-add-plus (inf false) (inf false) p k = tt
-add-plus (inf false) (fin t n d) p k = tt
-add-plus (fin true m e) h p k = absurd p
-add-plus (fin false m e) nan p k = absurd k
-add-plus (fin false m e) (inf t) p k = k
-add-plus (fin false m e) (fin false n d) p k =
-    subst (λ (z : Float). T (plus z)) (sym (sum-is (m * up e * down d) (n * up d * down e) (down e * down d))) (round-plus (m * up e * down d + n * up d * down e) (down e * down d))
-add-plus (fin false m e) (fin true n d) p k =
-    subst (λ (z : Float). T (plus z)) (sym (minus (m * up e * down d) (n * up d * down e) (down e * down d) (none n (up d) (down e) (m * up e * down d) (eqb→eq n 0 k))))
-    (round-plus (m * up e * down d - n * up d * down e) (down e * down d))
+add-positiveOrZero nan h p k = absurd p
+add-positiveOrZero (inf true) h p k = absurd p
+add-positiveOrZero (inf false) nan p k = absurd k
+add-positiveOrZero (inf false) (inf true) p k = absurd k
+add-positiveOrZero (inf false) (inf false) p k = tt
+add-positiveOrZero (inf false) (fin t n d) p k = tt
+add-positiveOrZero (fin true m e) h p k = absurd p
+add-positiveOrZero (fin false m e) nan p k = absurd k
+add-positiveOrZero (fin false m e) (inf t) p k = k
+add-positiveOrZero (fin false m e) (fin false n d) p k =
+    subst (λ (z : Float). T (positiveOrZero z)) (sym (sum-is (m * up e * down d) (n * up d * down e) (down e * down d)))
+    (round-positiveOrZero (m * up e * down d + n * up d * down e) (down e * down d))
+add-positiveOrZero (fin false m e) (fin true n d) p k =
+    subst (λ (z : Float). T (positiveOrZero z))
+    (sym (minus (m * up e * down d) (n * up d * down e) (down e * down d) (none n (up d) (down e) (m * up e * down d) (eqb→eq n 0 k))))
+    (round-positiveOrZero (m * up e * down d - n * up d * down e) (down e * down d))

@@ -1,6 +1,6 @@
 -- No bond, and a bond with other terms. Definitions only.
 use lib.Ieee.{Float}
-use Rattle.pricer.specs.Range.{nought}
+use Rattle.pricer.specs.Range.{zeroFloat}
 use Rattle.pricer.specs.declared.Terms.{Terms}
 use Rattle.pricer.specs.declared.Terms.the-variants.{Zero}
 use Rattle.pricer.specs.declared.Bond.{Bond}
@@ -11,7 +11,7 @@ emptyWith y = record { periods = 0; terms = Zero y }
 
 -- no bond: the terms have all bits clear
 abbrev pub noBond : Bond
-noBond = emptyWith nought
+noBond = emptyWith zeroFloat
 
 -- the bond with other terms
 abbrev pub withTerms : Bond → Terms → Bond

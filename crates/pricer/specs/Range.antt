@@ -14,16 +14,16 @@ abbrev pub within : Float → Float → Float → Bool
 within lo hi x = le lo x && le x hi
 
 -- 0
-abbrev pub nought : Float
-nought = fin false 0 (pos 0)
+abbrev pub zeroFloat : Float
+zeroFloat = fin false 0 (pos 0)
 
 -- "Coupon lies from 0 to 100"
 abbrev pub couponInRange : Float → Bool
-couponInRange c = within nought hundred c
+couponInRange c = within zeroFloat hundred c
 
 -- the ends of "yield from 0 to 1"
 abbrev pub lowestYield : Float
-lowestYield = nought
+lowestYield = zeroFloat
 
 abbrev pub highestYield : Float
 highestYield = one

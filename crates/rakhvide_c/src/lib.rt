@@ -6,14 +6,14 @@ ghost use lib.ListN.{take};
 ghost use lib.Ieee.{binary64, toBits};
 ghost use Rattle.isin.specs.Isin.{verdictOf};
 ghost use Rattle.pricer.specs.Price.{zeroPrice, fixedPrice};
-ghost use Rattle.term.specs.Term.{termOf, termNumber};
+ghost use Rattle.book_term.specs.Term.{termOf, termNumber};
 ghost use Rattle.book.specs.Book.{bookVerdict};
 ghost use Rattle.page.specs.Page.{eventsOf, printedOf, bufferOf, Reported};
-ghost use Rattle.kept.specs.Kept.{checkOf, stepNumber, stepBytes, openNumber, openBytes};
+ghost use Rattle.snapshot.specs.Snapshot.{checkOf, stepNumber, stepBytes, openNumber, openBytes};
 ghost use Rattle.rakhvide_c.specs.Terms.{termBits};
+use book_term::Reading;
 use pricer::Bond;
 use pricer::Terms;
-use term::Reading;
 
 // 0 for an identifier that passes, 4 for its form, 5 for its check digit.
 #[no_mangle]
@@ -57,7 +57,7 @@ pub extern "C" fn rakhvide_term(term: &[u8], bits: &mut u64) -> u8
     ensures { λ r. ⌜ r ≡ termNumber (termOf (now (term .entry))) ⌝ }
     ensures { λ _. ⌜ now (bits .exit) ≡ termBits (termOf (now (term .entry))) (now (bits .entry)) ⌝ }
 {
-    let r = term::read(term);
+    let r = book_term::read(term);
     *bits = bits_of(r, *bits);
     number_of(r)
 }
@@ -84,8 +84,8 @@ pub extern "C" fn rakhvide_price_fixed(periods: u8, coupon: f64, ytm: f64) -> u6
     })
 }
 
-// Runs the events on the fresh table of the book, and writes the page to the front of the buffer and its length. A buffer that is too short is left as it
-// is, and the length is 0. What is written for an accepted book tells a run of which demand 3 holds.
+// Runs the events on the fresh table of the book, and writes the page to the front of the buffer and its length. A buffer that is too short is left
+// as it is, and the length is 0. What is written for an accepted book tells a run of which demand 3 holds.
 #[no_mangle]
 pub extern "C" fn rakhvide_page(
     book: &[u8],
@@ -96,35 +96,36 @@ pub extern "C" fn rakhvide_page(
     ensures { λ r. ⌜ r ≡ printedOf (now (book .entry)) (now (events .entry)) (now (out .entry)) .written ⌝ }
     ensures { λ _. ⌜ now (length .exit) ≡ printedOf (now (book .entry)) (now (events .entry)) (now (out .entry)) .length ⌝ }
     ensures { λ _. ⌜ now (out .exit) ≡ bufferOf (now (book .entry)) (now (events .entry)) (now (out .entry)) ⌝ }
-    ensures { λ r. ⌜ (bookVerdict (now (book .entry)) ≡ 0 → r ≡ true → Reported (now (book .entry)) (eventsOf (now (events .entry))) (take (now (length .exit)) (now (out .exit)))) ⌝ }
+    ensures { λ r. ⌜ (bookVerdict (now (book .entry)) ≡ 0 → r ≡ true
+        → Reported (now (book .entry)) (eventsOf (now (events .entry))) (take (now (length .exit)) (now (out .exit)))) ⌝ }
 {
     let printed = page::page(book, events, out);
     *length = printed.length;
     printed.written
 }
 
-// Opens a book into the bytes of a kept table: the book's number, 9 for another length, or 0 and the fresh table.
+// Opens a book into the bytes of a snapshot: the book's number, 9 for another length, or 0 and the fresh table.
 #[no_mangle]
 pub extern "C" fn rakhvide_open(book: &[u8], table: &mut [u8]) -> u8
     ensures { λ r. ⌜ r ≡ openNumber (now (book .entry)) (now (table .entry)) ⌝ }
     ensures { λ _. ⌜ now (table .exit) ≡ openBytes (now (book .entry)) (now (table .entry)) ⌝ }
 {
-    kept::open(book, table)
+    snapshot::open(book, table)
 }
 
-// Check 9 of a kept table: 0 or 9.
+// Check 9 of a snapshot: 0 or 9.
 #[no_mangle]
 pub extern "C" fn rakhvide_check(table: &[u8]) -> u8
     ensures { λ r. ⌜ r ≡ checkOf (now (table .entry)) ⌝ }
 {
-    kept::check(table)
+    snapshot::check(table)
 }
 
-// One event on a kept table: its number, and where it is 0 the table after it.
+// One event on a snapshot: its number, and where it is 0 the table after it.
 #[no_mangle]
 pub extern "C" fn rakhvide_step(table: &mut [u8], event: &[u8]) -> u8
     ensures { λ r. ⌜ r ≡ stepNumber (now (table .entry)) (now (event .entry)) ⌝ }
     ensures { λ _. ⌜ now (table .exit) ≡ stepBytes (now (table .entry)) (now (event .entry)) ⌝ }
 {
-    kept::step(table, event)
+    snapshot::step(table, event)
 }

@@ -1,5 +1,5 @@
 pub mod Long
 pub mod Views
 pub mod Messages
-pub mod Wipe
+pub mod ClearPool
 pub mod Refusals

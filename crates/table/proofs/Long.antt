@@ -18,7 +18,7 @@ use Rattle.table.proofs.Views.{Sized}
 pub record Long (t : Table) : Type 0 where
   pub bonds : length (t .bonds) ≡ 64
   pub jobs : length (t .jobs) ≡ 64
-  pub nodes : length (t .nodes) ≡ 16
+  pub machines : length (t .machines) ≡ 16
   pub told : length (t .told) ≡ 256
   pub pools : length (t .pools) ≡ 1024
   pub messages : length (t .messages) ≡ 128
@@ -32,11 +32,11 @@ long t vs g =
     record {
       bonds = counted Bond.the-field (t .bonds) 64 (f .0 .1 .0 .1);
       jobs = counted Job.the-field (t .jobs) 64 (f .1 .0 .1 .0 .1);
-      nodes = counted Machine.the-field (t .nodes) 16 (f .1 .1 .0 .1 .0 .1);
+      machines = counted Machine.the-field (t .machines) 16 (f .1 .1 .0 .1 .0 .1);
       told = counted u8-field (t .told) 256 (f .1 .1 .1 .0 .1 .0 .1);
       pools = counted u8-field (t .pools) 1024 (f .1 .1 .1 .1 .0 .1 .0 .1);
       messages = counted Message.the-field (t .messages) 128 (f .1 .1 .1 .1 .1 .1 .0 .1 .0 .1);
     }
 
 pub sized : (t : Table) → Long t → t .«in_flight» ≤ 128 → Sized t
-sized t l h = record { jobs = l .jobs; nodes = l .nodes; told = l .told; pools = l .pools; messages = l .messages; used = h }
+sized t l h = record { jobs = l .jobs; machines = l .machines; told = l .told; pools = l .pools; messages = l .messages; used = h }

@@ -6,12 +6,13 @@ use mathlib.Core.Bool.{Bool}
 use mathlib.Core.List.{List, [], _∷_, _++_, append-assoc}
 use native.Mathlib.Numerals.{add-one}
 use native.Mathlib.Omega.{arith}
-use lib.ListN.{length, getD, take, drop, set, replicate, length-set, length-append, length-take, length-drop, take-append-drop, replicate-append-replicate}
+use lib.ListN.{length, getD, take, drop, set, replicate, length-set, length-append, length-take, length-drop, take-append-drop}
+use lib.ListN.{replicate-append-replicate}
 use lib.Seq.{take-suc-set, take-append-seam, take-append-le, drop-append-le, take-at, length-take-le, getD-take, drop-at}
 use Rattle.table.specs.declared.Table.{Table}
 use Rattle.table.specs.declared.Message.{Message}
-use Rattle.table.specs.Views.{noMessage, nodeAt, flight, messageAt, withMessages}
-use Rattle.table.specs.Messages.{push, pull, sift, send, RoomFor}
+use Rattle.table.specs.Views.{noMessage, machineAt, flight, messageAt, withMessages}
+use Rattle.table.specs.Messages.{push, removeAt, keepMessages, send, RoomFor}
 use Rattle.lists.specs.Scan.{without, filter, padTo}
 use lib.Dec.{eqb}
 use borrow.Author.Tests.{eqb-true}
@@ -23,9 +24,9 @@ use Rattle.table.proofs.Views.{Sized, sized-messages, length-flight}
 unfoldable pub Padded : Table → Type 0
 Padded t = t .messages ≡ padTo 128 noMessage (flight t)
 
-pub flight-sift : (t : Table) (p : Message → Bool) → flight (sift t p) ≡ filter p (flight t)
-unfolding flight sift withMessages padTo
-flight-sift t p = take-append-seam (filter p (take (t .«in_flight») (t .messages))) _
+pub flight-keepMessages : (t : Table) (p : Message → Bool) → flight (keepMessages t p) ≡ filter p (flight t)
+unfolding flight keepMessages withMessages padTo
+flight-keepMessages t p = take-append-seam (filter p (take (t .«in_flight») (t .messages))) _
 
 module _ (t : Table) (s : Sized t) where
   pub flight-push : (m : Message) → t .«in_flight» < 128 → flight (push t m) ≡ flight t ++ (m ∷ [])
@@ -47,11 +48,13 @@ module _ (t : Table) (s : Sized t) where
   unfolding without
   length-rest k h = let e = length-flight t s in simp (length-append, length-take, length-drop) (omega arith)
 
-  pub flight-pull : (k : ℕ) → k < t .«in_flight» → flight (pull t k) ≡ without k (flight t)
-  flight-pull k h = unpull ∙ rw (split k h, append-assoc) (take-at (without k (flight t)) (drop (t .«in_flight») (t .messages) ++ (noMessage ∷ [])) (t .«in_flight» - 1) (length-rest k h))
+  pub flight-removeAt : (k : ℕ) → k < t .«in_flight» → flight (removeAt t k) ≡ without k (flight t)
+  flight-removeAt k h =
+      unpull ∙ rw (split k h, append-assoc) (take-at (without k (flight t)) (drop (t .«in_flight») (t .messages) ++ (noMessage ∷ []))
+      (t .«in_flight» - 1) (length-rest k h))
     where
-      unpull : flight (pull t k) ≡ take (t .«in_flight» - 1) (without k (t .messages) ++ (noMessage ∷ []))
-      unpull = unfold flight pull withMessages in refl
+      unpull : flight (removeAt t k) ≡ take (t .«in_flight» - 1) (without k (t .messages) ++ (noMessage ∷ []))
+      unpull = unfold flight removeAt withMessages in refl
 
   pub sized-push : (m : Message) → t .«in_flight» < 128 → Sized (push t m)
   unfolding push
@@ -59,15 +62,15 @@ module _ (t : Table) (s : Sized t) where
 
   pub sized-send : (m : Message) → RoomFor t (m .to) → Sized (send t m)
   unfolding send
-  sized-send m l = byBool (eqb (nodeAt t (m .to) .alive) 1) (λ e. rw (e, send) (sized-push m (l (eqb-true _ 1 e)))) (λ e. rw (e, send) s)
+  sized-send m l = byBool (eqb (machineAt t (m .to) .alive) 1) (λ e. rw (e, send) (sized-push m (l (eqb-true _ 1 e)))) (λ e. rw (e, send) s)
 
-  pub sized-pull : (k : ℕ) → k < t .«in_flight» → Sized (pull t k)
-  unfolding pull without
-  sized-pull k h = sized-messages t _ _ (simp (length-append, length-take, length-drop) (omega arith)) (omega arith) s
+  pub sized-removeAt : (k : ℕ) → k < t .«in_flight» → Sized (removeAt t k)
+  unfolding removeAt without
+  sized-removeAt k h = sized-messages t _ _ (simp (length-append, length-take, length-drop) (omega arith)) (omega arith) s
 
-  pub sized-sift : (p : Message → Bool) → Sized (sift t p)
-  unfolding sift
-  sized-sift p =
+  pub sized-keepMessages : (p : Message → Bool) → Sized (keepMessages t p)
+  unfolding keepMessages
+  sized-keepMessages p =
       let a = length-filter p (flight t) in
       let b = length-flight t s in
       sized-messages t _ _ (length-pad 128 noMessage (filter p (flight t)) (omega arith)) (omega arith) s
@@ -89,27 +92,29 @@ module _ (t : Table) (s : Sized t) where
       pushed : push t m .messages ≡ set (t .messages) (t .«in_flight») m
       pushed = unfold push withMessages in refl
 
-  pub padded-pull : (k : ℕ) → k < t .«in_flight» → Padded t → Padded (pull t k)
+  pub padded-removeAt : (k : ℕ) → k < t .«in_flight» → Padded t → Padded (removeAt t k)
   unfolding Padded padTo
-  padded-pull k h p =
+  padded-removeAt k h p =
       let n = t .«in_flight» in
       let e = length-flight t s in
       let d : drop n (t .messages) ≡ replicate (128 - n) noMessage =
       ap (drop n) p ∙ drop-at (flight t) (replicate (128 - length (flight t)) noMessage) n e ∙ ap (λ (i : ℕ). replicate (128 - i) noMessage) e in
       let c : 128 - length (without k (flight t)) ≡ 128 - n + 1 = omega (arith, length-rest k h) in
-      let f : replicate (128 - n) noMessage ++ (noMessage ∷ []) ≡ replicate (128 - n + 1) noMessage = replicate-append-replicate (128 - n) 1 noMessage in
-      let r : without k (t .messages) ++ (noMessage ∷ []) ≡ without k (flight t) ++ replicate (128 - n + 1) noMessage = rw (split k h, append-assoc, d, f) in
+      let f : replicate (128 - n) noMessage ++ (noMessage ∷ []) ≡ replicate (128 - n + 1) noMessage =
+      replicate-append-replicate (128 - n) 1 noMessage in
+      let r : without k (t .messages) ++ (noMessage ∷ []) ≡ without k (flight t) ++ replicate (128 - n + 1) noMessage =
+      rw (split k h, append-assoc, d, f) in
       pulled
       ∙ r
       ∙ ap (λ (i : ℕ). without k (flight t) ++ replicate i noMessage) (sym c)
-      ∙ ap (padTo 128 noMessage) (sym (flight-pull k h))
+      ∙ ap (padTo 128 noMessage) (sym (flight-removeAt k h))
     where
-      pulled : pull t k .messages ≡ without k (t .messages) ++ (noMessage ∷ [])
-      pulled = unfold pull withMessages in refl
+      pulled : removeAt t k .messages ≡ without k (t .messages) ++ (noMessage ∷ [])
+      pulled = unfold removeAt withMessages in refl
 
-  pub padded-sift : (p : Message → Bool) → Padded (sift t p)
+  pub padded-keepMessages : (p : Message → Bool) → Padded (keepMessages t p)
   unfolding Padded
-  padded-sift p = sifted ∙ ap (padTo 128 noMessage) (sym (flight-sift t p))
+  padded-keepMessages p = sifted ∙ ap (padTo 128 noMessage) (sym (flight-keepMessages t p))
     where
-      sifted : sift t p .messages ≡ padTo 128 noMessage (filter p (flight t))
-      sifted = unfold sift withMessages in refl
+      sifted : keepMessages t p .messages ≡ padTo 128 noMessage (filter p (flight t))
+      sifted = unfold keepMessages withMessages in refl

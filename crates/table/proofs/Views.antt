@@ -14,13 +14,14 @@ use Rattle.table.specs.declared.Machine.{Machine}
 use Rattle.table.specs.declared.Message.{Message}
 use Rattle.table.specs.declared.Table.{Table}
 use Rattle.lists.proofs.Cases.{byBool, byEq}
-use Rattle.table.specs.Views.{noJob, noMachine, bondAt, jobAt, nodeAt, poolAt, toldAt, messageAt, flight, withJob, withNode, withPool, withTold, withMessages}
+use Rattle.table.specs.Views.{noJob, noMachine, bondAt, jobAt, machineAt, poolAt, toldAt, messageAt, flight, withJob, withMachine, withPool}
+use Rattle.table.specs.Views.{withTold, withMessages}
 use Rattle.table.specs.Messages.{RoomFor}
 
 -- the arrays have their lengths
 pub record Sized (t : Table) : Type 0 where
   pub jobs : length (t .jobs) ≡ 64
-  pub nodes : length (t .nodes) ≡ 16
+  pub machines : length (t .machines) ≡ 16
   pub told : length (t .told) ≡ 256
   pub pools : length (t .pools) ≡ 1024
   pub messages : length (t .messages) ≡ 128
@@ -28,23 +29,27 @@ pub record Sized (t : Table) : Type 0 where
 
 pub sized-job : (t : Table) (j : ℕ) (v : Job) → Sized t → Sized (withJob t j v)
 unfolding withJob
-sized-job t j v s = record { jobs = simp length-set (s .jobs); nodes = s .nodes; told = s .told; pools = s .pools; messages = s .messages; used = s .used }
+sized-job t j v s =
+    record { jobs = simp length-set (s .jobs); machines = s .machines; told = s .told; pools = s .pools; messages = s .messages; used = s .used }
 
-pub sized-node : (t : Table) (m : ℕ) (v : Machine) → Sized t → Sized (withNode t m v)
-unfolding withNode
-sized-node t m v s = record { jobs = s .jobs; nodes = simp length-set (s .nodes); told = s .told; pools = s .pools; messages = s .messages; used = s .used }
+pub sized-machine : (t : Table) (m : ℕ) (v : Machine) → Sized t → Sized (withMachine t m v)
+unfolding withMachine
+sized-machine t m v s =
+    record { jobs = s .jobs; machines = simp length-set (s .machines); told = s .told; pools = s .pools; messages = s .messages; used = s .used }
 
 pub sized-pool : (t : Table) (m j r : ℕ) → Sized t → Sized (withPool t m j r)
 unfolding withPool
-sized-pool t m j r s = record { jobs = s .jobs; nodes = s .nodes; told = s .told; pools = simp length-set (s .pools); messages = s .messages; used = s .used }
+sized-pool t m j r s =
+    record { jobs = s .jobs; machines = s .machines; told = s .told; pools = simp length-set (s .pools); messages = s .messages; used = s .used }
 
 pub sized-told : (t : Table) (m d r : ℕ) → Sized t → Sized (withTold t m d r)
 unfolding withTold
-sized-told t m d r s = record { jobs = s .jobs; nodes = s .nodes; told = simp length-set (s .told); pools = s .pools; messages = s .messages; used = s .used }
+sized-told t m d r s =
+    record { jobs = s .jobs; machines = s .machines; told = simp length-set (s .told); pools = s .pools; messages = s .messages; used = s .used }
 
 pub sized-messages : (t : Table) (n : ℕ) (l : List Message) → length l ≡ 128 → n ≤ 128 → Sized t → Sized (withMessages t n l)
 unfolding withMessages
-sized-messages t n l e h s = record { jobs = s .jobs; nodes = s .nodes; told = s .told; pools = s .pools; messages = e; used = h }
+sized-messages t n l e h s = record { jobs = s .jobs; machines = s .machines; told = s .told; pools = s .pools; messages = e; used = h }
 
 -- ---- a part after its own update
 module _ (t : Table) (s : Sized t) where
@@ -52,9 +57,9 @@ module _ (t : Table) (s : Sized t) where
   unfolding jobAt withJob
   job-same j v h = getD-set-same (t .jobs) j v noJob (omega arith)
 
-  pub node-same : (m : ℕ) (v : Machine) → m < 16 → nodeAt (withNode t m v) m ≡ v
-  unfolding nodeAt withNode
-  node-same m v h = getD-set-same (t .nodes) m v noMachine (omega arith)
+  pub machine-same : (m : ℕ) (v : Machine) → m < 16 → machineAt (withMachine t m v) m ≡ v
+  unfolding machineAt withMachine
+  machine-same m v h = getD-set-same (t .machines) m v noMachine (omega arith)
 
   pub pool-same : (m j r : ℕ) → m < 16 → j < 64 → poolAt (withPool t m j r) m j ≡ r
   unfolding poolAt withPool
@@ -73,13 +78,13 @@ pub job-other : (t : Table) (j k : ℕ) (v : Job) → k ≢ j → jobAt (withJob
 unfolding jobAt withJob
 job-other t j k v h = getD-set-other (t .jobs) j k v noJob h
 
-pub node-other : (t : Table) (j k : ℕ) (v : Machine) → k ≢ j → nodeAt (withNode t j v) k ≡ nodeAt t k
-unfolding nodeAt withNode
-node-other t j k v h = getD-set-other (t .nodes) j k v noMachine h
+pub machine-other : (t : Table) (j k : ℕ) (v : Machine) → k ≢ j → machineAt (withMachine t j v) k ≡ machineAt t k
+unfolding machineAt withMachine
+machine-other t j k v h = getD-set-other (t .machines) j k v noMachine h
 
-pub pool-other-node : (t : Table) (m j k i r : ℕ) → j < 64 → i < 64 → k ≢ m → poolAt (withPool t m j r) k i ≡ poolAt t k i
+pub pool-other-machine : (t : Table) (m j k i r : ℕ) → j < 64 → i < 64 → k ≢ m → poolAt (withPool t m j r) k i ≡ poolAt t k i
 unfolding poolAt withPool
-pool-other-node t m j k i r a b h = getD-set-other (t .pools) (m * 64 + j) (k * 64 + i) r 0 (omega arith)
+pool-other-machine t m j k i r a b h = getD-set-other (t .pools) (m * 64 + j) (k * 64 + i) r 0 (omega arith)
 
 pub pool-other-job : (t : Table) (m j k i r : ℕ) → j < 64 → i < 64 → i ≢ j → poolAt (withPool t m j r) k i ≡ poolAt t k i
 unfolding poolAt withPool
@@ -89,18 +94,18 @@ pub told-other : (t : Table) (m j k i r : ℕ) → j < 16 → i < 16 → i ≢ j
 unfolding toldAt withTold
 told-other t m j k i r a b h = getD-set-other (t .told) (m * 16 + j) (k * 16 + i) r 0 (omega arith)
 
-pub told-other-node : (t : Table) (m j k i r : ℕ) → j < 16 → i < 16 → k ≢ m → toldAt (withTold t m j r) k i ≡ toldAt t k i
+pub told-other-machine : (t : Table) (m j k i r : ℕ) → j < 16 → i < 16 → k ≢ m → toldAt (withTold t m j r) k i ≡ toldAt t k i
 unfolding toldAt withTold
-told-other-node t m j k i r a b h = getD-set-other (t .told) (m * 16 + j) (k * 16 + i) r 0 (omega arith)
+told-other-machine t m j k i r a b h = getD-set-other (t .told) (m * 16 + j) (k * 16 + i) r 0 (omega arith)
 
 -- ---- a part after the update of another part
 pub bond-job : (t : Table) (j : ℕ) (v : Job) (k : ℕ) → bondAt (withJob t j v) k ≡ bondAt t k
 unfolding bondAt withJob
 bond-job t j v k = refl
 
-pub bond-node : (t : Table) (m : ℕ) (v : Machine) (k : ℕ) → bondAt (withNode t m v) k ≡ bondAt t k
-unfolding bondAt withNode
-bond-node t m v k = refl
+pub bond-machine : (t : Table) (m : ℕ) (v : Machine) (k : ℕ) → bondAt (withMachine t m v) k ≡ bondAt t k
+unfolding bondAt withMachine
+bond-machine t m v k = refl
 
 pub bond-pool : (t : Table) (m j r : ℕ) (k : ℕ) → bondAt (withPool t m j r) k ≡ bondAt t k
 unfolding bondAt withPool
@@ -114,9 +119,9 @@ pub bond-messages : (t : Table) (n : ℕ) (l : List Message) (k : ℕ) → bondA
 unfolding bondAt withMessages
 bond-messages t n l k = refl
 
-pub job-node : (t : Table) (m : ℕ) (v : Machine) (k : ℕ) → jobAt (withNode t m v) k ≡ jobAt t k
-unfolding jobAt withNode
-job-node t m v k = refl
+pub job-machine : (t : Table) (m : ℕ) (v : Machine) (k : ℕ) → jobAt (withMachine t m v) k ≡ jobAt t k
+unfolding jobAt withMachine
+job-machine t m v k = refl
 
 pub job-pool : (t : Table) (m j r : ℕ) (k : ℕ) → jobAt (withPool t m j r) k ≡ jobAt t k
 unfolding jobAt withPool
@@ -130,29 +135,29 @@ pub job-messages : (t : Table) (n : ℕ) (l : List Message) (k : ℕ) → jobAt 
 unfolding jobAt withMessages
 job-messages t n l k = refl
 
-pub node-job : (t : Table) (j : ℕ) (v : Job) (k : ℕ) → nodeAt (withJob t j v) k ≡ nodeAt t k
-unfolding nodeAt withJob
-node-job t j v k = refl
+pub machine-job : (t : Table) (j : ℕ) (v : Job) (k : ℕ) → machineAt (withJob t j v) k ≡ machineAt t k
+unfolding machineAt withJob
+machine-job t j v k = refl
 
-pub node-pool : (t : Table) (m j r : ℕ) (k : ℕ) → nodeAt (withPool t m j r) k ≡ nodeAt t k
-unfolding nodeAt withPool
-node-pool t m j r k = refl
+pub machine-pool : (t : Table) (m j r : ℕ) (k : ℕ) → machineAt (withPool t m j r) k ≡ machineAt t k
+unfolding machineAt withPool
+machine-pool t m j r k = refl
 
-pub node-told : (t : Table) (m d r : ℕ) (k : ℕ) → nodeAt (withTold t m d r) k ≡ nodeAt t k
-unfolding nodeAt withTold
-node-told t m d r k = refl
+pub machine-told : (t : Table) (m d r : ℕ) (k : ℕ) → machineAt (withTold t m d r) k ≡ machineAt t k
+unfolding machineAt withTold
+machine-told t m d r k = refl
 
-pub node-messages : (t : Table) (n : ℕ) (l : List Message) (k : ℕ) → nodeAt (withMessages t n l) k ≡ nodeAt t k
-unfolding nodeAt withMessages
-node-messages t n l k = refl
+pub machine-messages : (t : Table) (n : ℕ) (l : List Message) (k : ℕ) → machineAt (withMessages t n l) k ≡ machineAt t k
+unfolding machineAt withMessages
+machine-messages t n l k = refl
 
 pub pool-job : (t : Table) (j : ℕ) (v : Job) (k i : ℕ) → poolAt (withJob t j v) k i ≡ poolAt t k i
 unfolding poolAt withJob
 pool-job t j v k i = refl
 
-pub pool-node : (t : Table) (m : ℕ) (v : Machine) (k i : ℕ) → poolAt (withNode t m v) k i ≡ poolAt t k i
-unfolding poolAt withNode
-pool-node t m v k i = refl
+pub pool-machine : (t : Table) (m : ℕ) (v : Machine) (k i : ℕ) → poolAt (withMachine t m v) k i ≡ poolAt t k i
+unfolding poolAt withMachine
+pool-machine t m v k i = refl
 
 pub pool-told : (t : Table) (m d r : ℕ) (k i : ℕ) → poolAt (withTold t m d r) k i ≡ poolAt t k i
 unfolding poolAt withTold
@@ -166,9 +171,9 @@ pub told-job : (t : Table) (j : ℕ) (v : Job) (k i : ℕ) → toldAt (withJob t
 unfolding toldAt withJob
 told-job t j v k i = refl
 
-pub told-node : (t : Table) (m : ℕ) (v : Machine) (k i : ℕ) → toldAt (withNode t m v) k i ≡ toldAt t k i
-unfolding toldAt withNode
-told-node t m v k i = refl
+pub told-machine : (t : Table) (m : ℕ) (v : Machine) (k i : ℕ) → toldAt (withMachine t m v) k i ≡ toldAt t k i
+unfolding toldAt withMachine
+told-machine t m v k i = refl
 
 pub told-pool : (t : Table) (m j r : ℕ) (k i : ℕ) → toldAt (withPool t m j r) k i ≡ toldAt t k i
 unfolding toldAt withPool
@@ -182,9 +187,9 @@ pub message-job : (t : Table) (j : ℕ) (v : Job) (k : ℕ) → messageAt (withJ
 unfolding messageAt withJob
 message-job t j v k = refl
 
-pub message-node : (t : Table) (m : ℕ) (v : Machine) (k : ℕ) → messageAt (withNode t m v) k ≡ messageAt t k
-unfolding messageAt withNode
-message-node t m v k = refl
+pub message-machine : (t : Table) (m : ℕ) (v : Machine) (k : ℕ) → messageAt (withMachine t m v) k ≡ messageAt t k
+unfolding messageAt withMachine
+message-machine t m v k = refl
 
 pub message-pool : (t : Table) (m j r : ℕ) (k : ℕ) → messageAt (withPool t m j r) k ≡ messageAt t k
 unfolding messageAt withPool
@@ -198,9 +203,9 @@ pub flight-job : (t : Table) (j : ℕ) (v : Job) → flight (withJob t j v) ≡ 
 unfolding flight withJob
 flight-job t j v = refl
 
-pub flight-node : (t : Table) (m : ℕ) (v : Machine) → flight (withNode t m v) ≡ flight t
-unfolding flight withNode
-flight-node t m v = refl
+pub flight-machine : (t : Table) (m : ℕ) (v : Machine) → flight (withMachine t m v) ≡ flight t
+unfolding flight withMachine
+flight-machine t m v = refl
 
 pub flight-pool : (t : Table) (m j r : ℕ) → flight (withPool t m j r) ≡ flight t
 unfolding flight withPool
@@ -210,53 +215,53 @@ pub flight-told : (t : Table) (m d r : ℕ) → flight (withTold t m d r) ≡ fl
 unfolding flight withTold
 flight-told t m d r = refl
 
-pub machines-job : (t : Table) (j : ℕ) (v : Job) → withJob t j v .machines ≡ t .machines
+pub machine-count-job : (t : Table) (j : ℕ) (v : Job) → withJob t j v .«machine_count» ≡ t .«machine_count»
 unfolding withJob
-machines-job t j v = refl
+machine-count-job t j v = refl
 
-pub machines-node : (t : Table) (m : ℕ) (v : Machine) → withNode t m v .machines ≡ t .machines
-unfolding withNode
-machines-node t m v = refl
+pub machine-count-machine : (t : Table) (m : ℕ) (v : Machine) → withMachine t m v .«machine_count» ≡ t .«machine_count»
+unfolding withMachine
+machine-count-machine t m v = refl
 
-pub machines-pool : (t : Table) (m j r : ℕ) → withPool t m j r .machines ≡ t .machines
+pub machine-count-pool : (t : Table) (m j r : ℕ) → withPool t m j r .«machine_count» ≡ t .«machine_count»
 unfolding withPool
-machines-pool t m j r = refl
+machine-count-pool t m j r = refl
 
-pub machines-told : (t : Table) (m d r : ℕ) → withTold t m d r .machines ≡ t .machines
+pub machine-count-told : (t : Table) (m d r : ℕ) → withTold t m d r .«machine_count» ≡ t .«machine_count»
 unfolding withTold
-machines-told t m d r = refl
+machine-count-told t m d r = refl
 
-pub machines-messages : (t : Table) (n : ℕ) (l : List Message) → withMessages t n l .machines ≡ t .machines
+pub machine-count-messages : (t : Table) (n : ℕ) (l : List Message) → withMessages t n l .«machine_count» ≡ t .«machine_count»
 unfolding withMessages
-machines-messages t n l = refl
+machine-count-messages t n l = refl
 
-pub entries-job : (t : Table) (j : ℕ) (v : Job) → withJob t j v .entries ≡ t .entries
+pub entry-count-job : (t : Table) (j : ℕ) (v : Job) → withJob t j v .«entry_count» ≡ t .«entry_count»
 unfolding withJob
-entries-job t j v = refl
+entry-count-job t j v = refl
 
-pub entries-node : (t : Table) (m : ℕ) (v : Machine) → withNode t m v .entries ≡ t .entries
-unfolding withNode
-entries-node t m v = refl
+pub entry-count-machine : (t : Table) (m : ℕ) (v : Machine) → withMachine t m v .«entry_count» ≡ t .«entry_count»
+unfolding withMachine
+entry-count-machine t m v = refl
 
-pub entries-pool : (t : Table) (m j r : ℕ) → withPool t m j r .entries ≡ t .entries
+pub entry-count-pool : (t : Table) (m j r : ℕ) → withPool t m j r .«entry_count» ≡ t .«entry_count»
 unfolding withPool
-entries-pool t m j r = refl
+entry-count-pool t m j r = refl
 
-pub entries-told : (t : Table) (m d r : ℕ) → withTold t m d r .entries ≡ t .entries
+pub entry-count-told : (t : Table) (m d r : ℕ) → withTold t m d r .«entry_count» ≡ t .«entry_count»
 unfolding withTold
-entries-told t m d r = refl
+entry-count-told t m d r = refl
 
-pub entries-messages : (t : Table) (n : ℕ) (l : List Message) → withMessages t n l .entries ≡ t .entries
+pub entry-count-messages : (t : Table) (n : ℕ) (l : List Message) → withMessages t n l .«entry_count» ≡ t .«entry_count»
 unfolding withMessages
-entries-messages t n l = refl
+entry-count-messages t n l = refl
 
 pub bonds-job : (t : Table) (j : ℕ) (v : Job) → withJob t j v .bonds ≡ t .bonds
 unfolding withJob
 bonds-job t j v = refl
 
-pub bonds-node : (t : Table) (m : ℕ) (v : Machine) → withNode t m v .bonds ≡ t .bonds
-unfolding withNode
-bonds-node t m v = refl
+pub bonds-machine : (t : Table) (m : ℕ) (v : Machine) → withMachine t m v .bonds ≡ t .bonds
+unfolding withMachine
+bonds-machine t m v = refl
 
 pub bonds-pool : (t : Table) (m j r : ℕ) → withPool t m j r .bonds ≡ t .bonds
 unfolding withPool
@@ -274,9 +279,9 @@ pub used-job : (t : Table) (j : ℕ) (v : Job) → withJob t j v .«in_flight» 
 unfolding withJob
 used-job t j v = refl
 
-pub used-node : (t : Table) (m : ℕ) (v : Machine) → withNode t m v .«in_flight» ≡ t .«in_flight»
-unfolding withNode
-used-node t m v = refl
+pub used-machine : (t : Table) (m : ℕ) (v : Machine) → withMachine t m v .«in_flight» ≡ t .«in_flight»
+unfolding withMachine
+used-machine t m v = refl
 
 pub used-pool : (t : Table) (m j r : ℕ) → withPool t m j r .«in_flight» ≡ t .«in_flight»
 unfolding withPool
@@ -290,9 +295,9 @@ pub slots-job : (t : Table) (j : ℕ) (v : Job) → withJob t j v .messages ≡ 
 unfolding withJob
 slots-job t j v = refl
 
-pub slots-node : (t : Table) (m : ℕ) (v : Machine) → withNode t m v .messages ≡ t .messages
-unfolding withNode
-slots-node t m v = refl
+pub slots-machine : (t : Table) (m : ℕ) (v : Machine) → withMachine t m v .messages ≡ t .messages
+unfolding withMachine
+slots-machine t m v = refl
 
 pub slots-pool : (t : Table) (m j r : ℕ) → withPool t m j r .messages ≡ t .messages
 unfolding withPool
@@ -302,23 +307,76 @@ pub slots-told : (t : Table) (m d r : ℕ) → withTold t m d r .messages ≡ t 
 unfolding withTold
 slots-told t m d r = refl
 
-pub ruleset views = (bond-job, bond-node, bond-pool, bond-told, bond-messages, job-node, job-pool, job-told, job-messages, node-job, node-pool, node-told, node-messages, pool-job, pool-node, pool-told, pool-messages, told-job, told-node, told-pool, told-messages, message-job, message-node, message-pool, message-told, flight-job, flight-node, flight-pool, flight-told, machines-job, machines-node, machines-pool, machines-told, machines-messages, entries-job, entries-node, entries-pool, entries-told, entries-messages, bonds-job, bonds-node, bonds-pool, bonds-told, bonds-messages, used-job, used-node, used-pool, used-told, slots-job, slots-node, slots-pool, slots-told)
+pub ruleset views = (
+  bond-job,
+  bond-machine,
+  bond-pool,
+  bond-told,
+  bond-messages,
+  job-machine,
+  job-pool,
+  job-told,
+  job-messages,
+  machine-job,
+  machine-pool,
+  machine-told,
+  machine-messages,
+  pool-job,
+  pool-machine,
+  pool-told,
+  pool-messages,
+  told-job,
+  told-machine,
+  told-pool,
+  told-messages,
+  message-job,
+  message-machine,
+  message-pool,
+  message-told,
+  flight-job,
+  flight-machine,
+  flight-pool,
+  flight-told,
+  machine-count-job,
+  machine-count-machine,
+  machine-count-pool,
+  machine-count-told,
+  machine-count-messages,
+  entry-count-job,
+  entry-count-machine,
+  entry-count-pool,
+  entry-count-told,
+  entry-count-messages,
+  bonds-job,
+  bonds-machine,
+  bonds-pool,
+  bonds-told,
+  bonds-messages,
+  used-job,
+  used-machine,
+  used-pool,
+  used-told,
+  slots-job,
+  slots-machine,
+  slots-pool,
+  slots-told,
+)
 
 -- a part of the machines' records that machine m's new record has too; also where there is no machine m, since then nothing is written
-pub part-node : {A : Type 0} (f : Machine → A) (t : Table) (m : ℕ) (v : Machine)
-    → f v ≡ f (nodeAt t m) → (k : ℕ) → f (nodeAt (withNode t m v) k) ≡ f (nodeAt t k)
-unfolding nodeAt withNode
-part-node f t m v e k =
+pub part-machine : {A : Type 0} (f : Machine → A) (t : Table) (m : ℕ) (v : Machine)
+    → f v ≡ f (machineAt t m) → (k : ℕ) → f (machineAt (withMachine t m v) k) ≡ f (machineAt t k)
+unfolding machineAt withMachine
+part-machine f t m v e k =
     byEq k m
-    (λ d. rw d (byBool (ltb m (length (t .nodes)))
-    (λ l. rw (getD-set-same (t .nodes) m v noMachine (ltb-true _ _ l)) e)
-    (λ l. rw (set-out (t .nodes) m v (ltb-false _ _ l)))))
-    (λ d. rw (getD-set-other (t .nodes) m k v noMachine d))
+    (λ d. rw d (byBool (ltb m (length (t .machines)))
+    (λ l. rw (getD-set-same (t .machines) m v noMachine (ltb-true _ _ l)) e)
+    (λ l. rw (set-out (t .machines) m v (ltb-false _ _ l)))))
+    (λ d. rw (getD-set-other (t .machines) m k v noMachine d))
 
 -- a machine's update that leaves it alive or dead as it was
-module _ (t : Table) (m : ℕ) (v : Machine) (e : v .alive ≡ nodeAt t m .alive) where
-  pub alive-node : (k : ℕ) → nodeAt (withNode t m v) k .alive ≡ nodeAt t k .alive
-  alive-node = part-node (λ n. n .alive) t m v e
+module _ (t : Table) (m : ℕ) (v : Machine) (e : v .alive ≡ machineAt t m .alive) where
+  pub alive-machine : (k : ℕ) → machineAt (withMachine t m v) k .alive ≡ machineAt t k .alive
+  alive-machine = part-machine (λ n. n .alive) t m v e
 
-  pub room-node : (b : ℕ) → RoomFor t b → RoomFor (withNode t m v) b
-  room-node b r l = rw (used-node t m v) (r (sym (alive-node b) ∙ l))
+  pub room-machine : (b : ℕ) → RoomFor t b → RoomFor (withMachine t m v) b
+  room-machine b r l = rw (used-machine t m v) (r (sym (alive-machine b) ∙ l))

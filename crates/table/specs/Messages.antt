@@ -8,35 +8,35 @@ use lib.ListN.{length, set}
 use Rattle.lists.specs.Scan.{least, filter, padTo, without}
 use Rattle.table.specs.declared.Message.{Message}
 use Rattle.table.specs.declared.Table.{Table}
-use Rattle.table.specs.Views.{noMessage, nodeAt, messageAt, flight, withMessages}
+use Rattle.table.specs.Views.{noMessage, machineAt, messageAt, flight, withMessages}
 
 -- "messages fill the slots from the first": m fills the next slot
 unfoldable pub push : Table → Message → Table
 push t m = withMessages t (t .«in_flight» + 1) (set (t .messages) (t .«in_flight») m)
 
 -- slot k goes, those after it move up by one, and the last slot is empty
-unfoldable pub pull : Table → ℕ → Table
-pull t k = withMessages t (t .«in_flight» - 1) (without k (t .messages) ++ (noMessage ∷ []))
+unfoldable pub removeAt : Table → ℕ → Table
+removeAt t k = withMessages t (t .«in_flight» - 1) (without k (t .messages) ++ (noMessage ∷ []))
 
 -- only the messages of which p holds stay in flight, in their order
-unfoldable pub sift : Table → (Message → Bool) → Table
-sift t p = withMessages t (length (filter p (flight t))) (padTo 128 noMessage (filter p (flight t)))
+unfoldable pub keepMessages : Table → (Message → Bool) → Table
+keepMessages t p = withMessages t (length (filter p (flight t))) (padTo 128 noMessage (filter p (flight t)))
 
 -- "A message to a dead machine is stored nowhere."
 unfoldable pub send : Table → Message → Table
-send t m = cond (eqb (nodeAt t (m .to) .alive) 1) (push t m) t
+send t m = cond (eqb (machineAt t (m .to) .alive) 1) (push t m) t
 
 -- "up to 128 messages in flight": a slot is free for a message to machine b, where b lives
 abbrev pub RoomFor : Table → ℕ → Type 0
-RoomFor t b = nodeAt t b .alive ≡ 1 → t .«in_flight» < 128
+RoomFor t b = machineAt t b .alive ≡ 1 → t .«in_flight» < 128
 
 -- "The channel from one machine to another": from a to b
-abbrev pub chan : ℕ → ℕ → Message → Bool
-chan a b m = eqb (m .from) a && eqb (m .to) b
+abbrev pub inChannel : ℕ → ℕ → Message → Bool
+inChannel a b m = eqb (m .from) a && eqb (m .to) b
 
 -- "the oldest message from a to b": its slot, or the number in flight where there is none
 unfoldable pub oldest : Table → ℕ → ℕ → ℕ
-oldest t a b = least (λ i. chan a b (messageAt t i)) (t .«in_flight»)
+oldest t a b = least (λ i. inChannel a b (messageAt t i)) (t .«in_flight»)
 
 -- what stays where "messages to it are dropped"
 abbrev pub notTo : ℕ → Message → Bool

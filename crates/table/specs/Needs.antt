@@ -2,7 +2,7 @@
 use Prim.Native.Nat.{ℕ, _<_, _≤_}
 use Rattle.table.specs.declared.Message.{Message}
 use Rattle.table.specs.declared.Table.{Table}
-use Rattle.table.specs.Views.{jobAt, nodeAt, messageAt}
+use Rattle.table.specs.Views.{jobAt, machineAt, messageAt}
 
 -- a slot is free
 pub record Room (t : Table) : Type 0 where
@@ -17,10 +17,10 @@ pub record Within (m : Message) : Type 0 where
 
 -- counts and numbers are within the arrays, and a replica number can still rise
 pub record Ready (t : Table) : Type 0 where
-  pub machines : t .machines ≤ 16
-  pub entries : t .entries ≤ 64
+  pub «machine_count» : t .«machine_count» ≤ 16
+  pub «entry_count» : t .«entry_count» ≤ 64
   pub flight : t .«in_flight» ≤ 128
   pub messages : (i : ℕ) → i < t .«in_flight» → Within (messageAt t i)
-  pub reserved : (m : ℕ) → m < 16 → nodeAt t m .«reserved_job» < 64
-  pub running : (m : ℕ) → m < 16 → nodeAt t m .«running_job» < 64
+  pub reserved : (m : ℕ) → m < 16 → machineAt t m .«reserved_job» < 64
+  pub running : (m : ℕ) → m < 16 → machineAt t m .«running_job» < 64
   pub replicas : (j : ℕ) → j < 64 → jobAt t j .replica < 255

@@ -1,5 +1,5 @@
--- One-part updates of a job and of a machine, the copies and messages that they speak of, and what an event answers. The updates are opaque: a proof of
--- code unfolds them by the one name `pieces`.
+-- One-part updates of a job and of a machine, the copies and messages that they speak of, and what an event answers. The updates are opaque: a proof
+-- of code unfolds them by the one name `pieces`.
 use mathlib.Core.Bool.{Bool, not, _&&_}
 use Prim.Native.Nat.{ℕ}
 use lib.Dec.{eqb}
@@ -8,7 +8,7 @@ use Rattle.table.specs.declared.Machine.{Machine}
 use Rattle.table.specs.declared.Message.{Message}
 use Rattle.table.specs.declared.Table.{Table}
 use Rattle.table.specs.declared.Answer.{Answer}
-use Rattle.table.specs.Views.{nodeAt, refuse}
+use Rattle.table.specs.Views.{machineAt, refuse}
 
 -- ---- a job
 
@@ -42,19 +42,55 @@ priced v bits = record { state = PRICED; replica = v .replica; moving = v .movin
 
 -- its reserved copy is (job j, replica r, thief th)
 unfoldable pub reserve : Machine → ℕ → ℕ → ℕ → Machine
-reserve n j r th = record { alive = n .alive; «reserved_job» = j; «reserved_replica» = r; «reserved_thief» = th; «running_job» = n .«running_job»; «running_replica» = n .«running_replica»; waits = n .waits }
+reserve n j r th =
+    record {
+      alive = n .alive;
+      «reserved_job» = j;
+      «reserved_replica» = r;
+      «reserved_thief» = th;
+      «running_job» = n .«running_job»;
+      «running_replica» = n .«running_replica»;
+      waits = n .waits;
+    }
 
 -- its reserved copy is gone
 unfoldable pub release : Machine → Machine
-release n = record { alive = n .alive; «reserved_job» = 0; «reserved_replica» = 0; «reserved_thief» = 0; «running_job» = n .«running_job»; «running_replica» = n .«running_replica»; waits = n .waits }
+release n =
+    record {
+      alive = n .alive;
+      «reserved_job» = 0;
+      «reserved_replica» = 0;
+      «reserved_thief» = 0;
+      «running_job» = n .«running_job»;
+      «running_replica» = n .«running_replica»;
+      waits = n .waits;
+    }
 
 -- its running copy is (job j, replica r); (0, 0) for none
 unfoldable pub running : Machine → ℕ → ℕ → Machine
-running n j r = record { alive = n .alive; «reserved_job» = n .«reserved_job»; «reserved_replica» = n .«reserved_replica»; «reserved_thief» = n .«reserved_thief»; «running_job» = j; «running_replica» = r; waits = n .waits }
+running n j r =
+    record {
+      alive = n .alive;
+      «reserved_job» = n .«reserved_job»;
+      «reserved_replica» = n .«reserved_replica»;
+      «reserved_thief» = n .«reserved_thief»;
+      «running_job» = j;
+      «running_replica» = r;
+      waits = n .waits;
+    }
 
 -- its wait is w: the victim + 1, or 0 for none
 unfoldable pub waiting : Machine → ℕ → Machine
-waiting n w = record { alive = n .alive; «reserved_job» = n .«reserved_job»; «reserved_replica» = n .«reserved_replica»; «reserved_thief» = n .«reserved_thief»; «running_job» = n .«running_job»; «running_replica» = n .«running_replica»; waits = w }
+waiting n w =
+    record {
+      alive = n .alive;
+      «reserved_job» = n .«reserved_job»;
+      «reserved_replica» = n .«reserved_replica»;
+      «reserved_thief» = n .«reserved_thief»;
+      «running_job» = n .«running_job»;
+      «running_replica» = n .«running_replica»;
+      waits = w;
+    }
 
 -- all of these at once, for a proof of code: `unfolding pieces`
 unfoldable pub pieces : ℕ
@@ -63,7 +99,7 @@ pieces = 0
 
 -- whether machine m is alive
 abbrev pub lives : Table → ℕ → Bool
-lives t m = eqb (nodeAt t m .alive) 1
+lives t m = eqb (machineAt t m .alive) 1
 
 -- ---- copies
 

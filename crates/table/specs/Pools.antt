@@ -4,7 +4,7 @@ use Prim.Native.Nat.{ℕ, max}
 use lib.Dec.{eqb}
 use Rattle.lists.specs.Scan.{least, upTo}
 use Rattle.table.specs.declared.Table.{Table}
-use Rattle.table.specs.Views.{nodeAt, poolAt, withNode, withPool}
+use Rattle.table.specs.Views.{machineAt, poolAt, withMachine, withPool}
 use Rattle.table.specs.Parts.{release}
 
 -- "Adding a copy to a pool keeps the larger replica number."
@@ -13,12 +13,12 @@ enter t m j r = withPool t m j (max (poolAt t m j) r)
 
 -- the reserved copy of machine m returns to its pool
 unfoldable pub returned : Table → ℕ → Table
-returned t m = withNode (enter t m (nodeAt t m .«reserved_job») (nodeAt t m .«reserved_replica»)) m (release (nodeAt t m))
+returned t m = withMachine (enter t m (machineAt t m .«reserved_job») (machineAt t m .«reserved_replica»)) m (release (machineAt t m))
 
 -- "the lowest job" in the pool of machine m, or 64 where it is empty
 unfoldable pub lowest : Table → ℕ → ℕ
 lowest t m = least (λ j. not (eqb (poolAt t m j) 0)) 64
 
 -- "its pool .. cleared": that of machine m
-unfoldable pub wipe : Table → ℕ → Table
-wipe t m = upTo (λ j u. withPool u m j 0) 64 t
+unfoldable pub clearPool : Table → ℕ → Table
+clearPool t m = upTo (λ j u. withPool u m j 0) 64 t

@@ -1,10 +1,10 @@
--- The table as it is read and changed: views of its parts, and one update for each part. Both are opaque: a proof of code unfolds them by the one name
--- `parts`, any other proof goes by their laws (proofs/Views.antt). Only the updates name every field of a table.
+-- The table as it is read and changed: views of its parts, and one update for each part. Both are opaque: a proof of code unfolds them by the one
+-- name `parts`, any other proof goes by their laws (proofs/Views.antt). Only the updates name every field of a table.
 --
 -- What document 01 lists under "The table", and the field that holds it (j < 64 a job, m < 16 a machine, i < 128 a slot):
 --
---   "Bytes 0 and 1: machine count, 2 to 16"                          machines
---   "entry count n, 0 to 64"                                         entries
+--   "Bytes 0 and 1: machine count, 2 to 16"                          machine_count
+--   "entry count n, 0 to 64"                                         entry_count
 --   "the terms of each entry"                                        bonds[j]; unused: 0 periods, Zero of +0
 --   "not admitted, open or priced"                                   jobs[j].state      0, 1, 2
 --   "its current replica number"                                     jobs[j].replica
@@ -12,15 +12,17 @@
 --                                                                    jobs[j].holder     p, or v
 --                                                                    jobs[j].thief      t; 0 where it is not moving
 --   "its price bits"                                                 jobs[j].price
---   "alive or dead"                                                  nodes[m].alive     1, 0
+--   "alive or dead"                                                  machines[m].alive     1, 0
 --   "which dead machines it has been told of"                        told[16 m + d]     1 where m was told of d
 --   "a pool (per job a replica number, 0 for none)"                  pools[64 m + j]
---   "at most one reserved copy (job, replica, thief)"                nodes[m].reserved_job, .reserved_replica, .reserved_thief; replica 0 for none
---   "at most one running copy"                                       nodes[m].running_job, .running_replica; replica 0 for none
---   "the victim it waits on, if any"                                 nodes[m].waits     the victim + 1, 0 for none
+--   "at most one reserved copy (job, replica, thief)"                machines[m].reserved_job, .reserved_replica, .reserved_thief; replica 0 for none
+--   "at most one running copy"                                       machines[m].running_job, .running_replica; replica 0 for none
+--   "the victim it waits on, if any"                                 machines[m].waits     the victim + 1, 0 for none
 --   "up to 128 messages in flight, in order of sending"              messages[i] for i < in_flight
---   the message kinds                                                messages[i].kind   1 FISH, 2 REQ, 3 AUTH, 4 DENIED, 5 OBSOLETE, 6 SCHEDULE, 7 ACK, 8 NOWORK, 9 RESULT
---   what a message carries                                           messages[i].from, .to, .job, .replica, .thief, .price; 0 where its kind has no use for it
+--   the message kinds                                                messages[i].kind   1 FISH, 2 REQ, 3 AUTH, 4 DENIED, 5 OBSOLETE, 6 SCHEDULE,
+--                                                                    7 ACK, 8 NOWORK, 9 RESULT
+--   what a message carries                                           messages[i].from, .to, .job, .replica, .thief, .price;
+--                                                                    0 where its kind has no use for it
 use mathlib.Core.List.{List}
 use Prim.Native.Nat.{ℕ, _+_, _*_}
 use lib.ListN.{getD, set, take}
@@ -38,7 +40,8 @@ abbrev pub noJob : Job
 noJob = record { state = 0; replica = 0; moving = 0; holder = 0; thief = 0; price = 0 }
 
 abbrev pub noMachine : Machine
-noMachine = record { alive = 0; «reserved_job» = 0; «reserved_replica» = 0; «reserved_thief» = 0; «running_job» = 0; «running_replica» = 0; waits = 0 }
+noMachine =
+    record { alive = 0; «reserved_job» = 0; «reserved_replica» = 0; «reserved_thief» = 0; «running_job» = 0; «running_replica» = 0; waits = 0 }
 
 abbrev pub noMessage : Message
 noMessage = record { kind = 0; from = 0; to = 0; job = 0; replica = 0; thief = 0; price = 0 }
@@ -58,8 +61,8 @@ unfoldable pub jobAt : Table → ℕ → Job
 jobAt t j = getD (t .jobs) j noJob
 
 -- "for each machine: alive or dead, .. at most one reserved copy (job, replica, thief), at most one running copy, and the victim it waits on, if any"
-unfoldable pub nodeAt : Table → ℕ → Machine
-nodeAt t m = getD (t .nodes) m noMachine
+unfoldable pub machineAt : Table → ℕ → Machine
+machineAt t m = getD (t .machines) m noMachine
 
 -- "a pool (per job a replica number, 0 for none)": that of job j in the pool of machine m
 unfoldable pub poolAt : Table → ℕ → ℕ → ℕ
@@ -80,23 +83,78 @@ flight t = take (t .«in_flight») (t .messages)
 -- ---- the updates: t with another job j, machine m, cell of a pool, told flag, or messages, and all else as it was
 
 unfoldable pub withJob : Table → ℕ → Job → Table
-withJob t j v = record { machines = t .machines; entries = t .entries; bonds = t .bonds; jobs = set (t .jobs) j v; nodes = t .nodes; told = t .told; pools = t .pools; «in_flight» = t .«in_flight»; messages = t .messages }
+withJob t j v =
+    record {
+      «machine_count» = t .«machine_count»;
+      «entry_count» = t .«entry_count»;
+      bonds = t .bonds;
+      jobs = set (t .jobs) j v;
+      machines = t .machines;
+      told = t .told;
+      pools = t .pools;
+      «in_flight» = t .«in_flight»;
+      messages = t .messages;
+    }
 
-unfoldable pub withNode : Table → ℕ → Machine → Table
-withNode t m v = record { machines = t .machines; entries = t .entries; bonds = t .bonds; jobs = t .jobs; nodes = set (t .nodes) m v; told = t .told; pools = t .pools; «in_flight» = t .«in_flight»; messages = t .messages }
+unfoldable pub withMachine : Table → ℕ → Machine → Table
+withMachine t m v =
+    record {
+      «machine_count» = t .«machine_count»;
+      «entry_count» = t .«entry_count»;
+      bonds = t .bonds;
+      jobs = t .jobs;
+      machines = set (t .machines) m v;
+      told = t .told;
+      pools = t .pools;
+      «in_flight» = t .«in_flight»;
+      messages = t .messages;
+    }
 
 unfoldable pub withPool : Table → ℕ → ℕ → ℕ → Table
-withPool t m j r = record { machines = t .machines; entries = t .entries; bonds = t .bonds; jobs = t .jobs; nodes = t .nodes; told = t .told; pools = set (t .pools) (m * 64 + j) r; «in_flight» = t .«in_flight»; messages = t .messages }
+withPool t m j r =
+    record {
+      «machine_count» = t .«machine_count»;
+      «entry_count» = t .«entry_count»;
+      bonds = t .bonds;
+      jobs = t .jobs;
+      machines = t .machines;
+      told = t .told;
+      pools = set (t .pools) (m * 64 + j) r;
+      «in_flight» = t .«in_flight»;
+      messages = t .messages;
+    }
 
 unfoldable pub withTold : Table → ℕ → ℕ → ℕ → Table
-withTold t m d r = record { machines = t .machines; entries = t .entries; bonds = t .bonds; jobs = t .jobs; nodes = t .nodes; told = set (t .told) (m * 16 + d) r; pools = t .pools; «in_flight» = t .«in_flight»; messages = t .messages }
+withTold t m d r =
+    record {
+      «machine_count» = t .«machine_count»;
+      «entry_count» = t .«entry_count»;
+      bonds = t .bonds;
+      jobs = t .jobs;
+      machines = t .machines;
+      told = set (t .told) (m * 16 + d) r;
+      pools = t .pools;
+      «in_flight» = t .«in_flight»;
+      messages = t .messages;
+    }
 
 unfoldable pub withMessages : Table → ℕ → List Message → Table
-withMessages t n l = record { machines = t .machines; entries = t .entries; bonds = t .bonds; jobs = t .jobs; nodes = t .nodes; told = t .told; pools = t .pools; «in_flight» = n; messages = l }
+withMessages t n l =
+    record {
+      «machine_count» = t .«machine_count»;
+      «entry_count» = t .«entry_count»;
+      bonds = t .bonds;
+      jobs = t .jobs;
+      machines = t .machines;
+      told = t .told;
+      pools = t .pools;
+      «in_flight» = n;
+      messages = l;
+    }
 
 -- all of these at once, for a proof of code: `unfolding parts`
 unfoldable pub parts : ℕ
-unfolding bondAt jobAt nodeAt poolAt toldAt messageAt flight withJob withNode withPool withTold withMessages
+unfolding bondAt jobAt machineAt poolAt toldAt messageAt flight withJob withMachine withPool withTold withMessages
 parts = 0
 
 -- ---- the answer

@@ -37,11 +37,11 @@ pub struct Message {
 }
 
 pub struct Table {
-    pub machines: u8,
-    pub entries: u8,
+    pub machine_count: u8,
+    pub entry_count: u8,
     pub bonds: [Bond; 64],
     pub jobs: [Job; 64],
-    pub nodes: [Machine; 16],
+    pub machines: [Machine; 16],
     pub told: [u8; 256],
     pub pools: [u8; 1024],
     pub in_flight: u8,

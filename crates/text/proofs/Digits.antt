@@ -14,7 +14,8 @@ use Rattle.text.proofs.Over.{over-none, over-set}
 pub length-digits : (base k x : ℕ) → length (lowDigits base k x) ≡ k
 unfolding lowDigits
 length-digits base zero x = refl
-length-digits base (suc k) x = length-append (lowDigits base k (x / base)) (digit (x % base) ∷ []) ∙ ap (λ (n : ℕ). n + 1) (length-digits base k (x / base)) ∙ add-one k
+length-digits base (suc k) x =
+    length-append (lowDigits base k (x / base)) (digit (x % base) ∷ []) ∙ ap (λ (n : ℕ). n + 1) (length-digits base k (x / base)) ∙ add-one k
 
 pub length-decimal : (n : ℕ) → length (decimal n) ≡ widthOf n
 unfolding decimal

@@ -34,7 +34,8 @@ module _ (d : List ℕ) (at : ℕ) (a : List ℕ) where
       let t : take n (p ++ drop n d) ≡ p = take-at p (drop n d) n q in
       let m : n + length b ≡ at + length (a ++ b) = omega arith in
       let u : drop (n + length b) (p ++ drop n d) ≡ drop (at + length (a ++ b)) d =
-      sym (drop-drop (length b) n (p ++ drop n d)) ∙ ap (drop (length b)) (drop-at p (drop n d) n q) ∙ drop-drop (length b) n d ∙ ap (λ (k : ℕ). drop k d) m in
+      sym (drop-drop (length b) n (p ++ drop n d)) ∙ ap (drop (length b)) (drop-at p (drop n d) n q) ∙ drop-drop (length b) n d
+      ∙ ap (λ (k : ℕ). drop k d) m in
       ap (λ (x : List ℕ). x ++ b ++ drop (n + length b) (p ++ drop n d)) t
       ∙ ap (λ (x : List ℕ). p ++ b ++ x) u
       ∙ ap (λ (x : List ℕ). x ++ drop (at + length (a ++ b)) d) (append-assoc (take at d) a b)

@@ -1,12 +1,13 @@
-// Refusal 9: whether a table is in order. One function for each array, over the tests of one element in the crates `elements` and `slots`.
+// Refusal 9: whether a table is in order. One function for each array,
+// over the tests of one element in the crates `validity_element` and `validity_message`.
 ghost use mathlib.Core.Path.{_≡_};
 ghost use Prim.Native.Nat.{_+_, _*_, _<_};
 ghost use lib.ListN.{getD};
 ghost use Rattle.lists.specs.Scan.{all};
 ghost use Rattle.table.specs.Views.{noMachine};
-ghost use Rattle.elements.specs.Elements.{toldOk, cellOk};
-ghost use Rattle.slots.specs.Slots.{slotOk};
-ghost use Rattle.validity.specs.Validity.{sizesOk, bound, bondsOk, jobsOk, nodesOk, poolsOk, messagesOk, rootOk, toldsOk, tableOk};
+ghost use Rattle.validity_element.specs.Element.{toldOk, cellOk};
+ghost use Rattle.validity_message.specs.Message.{slotOk};
+ghost use Rattle.validity.specs.Validity.{sizesOk, maxReplica, bondsOk, jobsOk, machinesOk, poolsOk, messagesOk, rootOk, toldsOk, tableOk};
 use table::Machine;
 use table::Message;
 use table::Table;
@@ -14,12 +15,12 @@ use table::Table;
 fn sizes_ok(t: Table) -> bool
     ensures { λ r. ⌜ r ≡ sizesOk t ⌝ }
 {
-    (2 <= t.machines) & (t.machines <= 16) & (t.entries <= 64) & (t.in_flight <= 128)
+    (2 <= t.machine_count) & (t.machine_count <= 16) & (t.entry_count <= 64) & (t.in_flight <= 128)
 }
 
 // 1 + the deaths the root was told of.
-fn bound(t: Table) -> u8
-    ensures { λ r. ⌜ r ≡ bound t ⌝ }
+fn max_replica(t: Table) -> u8
+    ensures { λ r. ⌜ r ≡ maxReplica t ⌝ }
 {
     let told = t.told;
     let mut n: u8 = 0;
@@ -37,12 +38,12 @@ fn bound(t: Table) -> u8
 fn bonds_ok(t: Table) -> bool
     ensures { λ r. ⌜ r ≡ bondsOk t ⌝ }
 {
-    let entries = t.entries;
+    let entries = t.entry_count;
     let bonds = t.bonds;
     let mut i: usize = 0;
     while i < 64 {
         let x = bonds[i];
-        if !elements::bond_ok(entries, i as u8, x) {
+        if !validity_element::bond_ok(entries, i as u8, x) {
             return false;
         }
         i += 1;
@@ -53,13 +54,13 @@ fn bonds_ok(t: Table) -> bool
 fn jobs_ok(t: Table, b: u8) -> bool
     ensures { λ r. ⌜ r ≡ jobsOk t b ⌝ }
 {
-    let machines = t.machines;
-    let entries = t.entries;
+    let machines = t.machine_count;
+    let entries = t.entry_count;
     let jobs = t.jobs;
     let mut i: usize = 0;
     while i < 64 {
         let v = jobs[i];
-        if !elements::job_ok(machines, entries, b, i as u8, v) {
+        if !validity_element::job_ok(machines, entries, b, i as u8, v) {
             return false;
         }
         i += 1;
@@ -67,16 +68,16 @@ fn jobs_ok(t: Table, b: u8) -> bool
     true
 }
 
-fn nodes_ok(t: Table, b: u8) -> bool
-    ensures { λ r. ⌜ r ≡ nodesOk t b ⌝ }
+fn machines_ok(t: Table, b: u8) -> bool
+    ensures { λ r. ⌜ r ≡ machinesOk t b ⌝ }
 {
+    let machine_count = t.machine_count;
+    let entries = t.entry_count;
     let machines = t.machines;
-    let entries = t.entries;
-    let nodes = t.nodes;
     let mut i: usize = 0;
     while i < 16 {
-        let n = nodes[i];
-        if !elements::node_ok(machines, entries, b, i as u8, n) {
+        let n = machines[i];
+        if !validity_element::machine_ok(machine_count, entries, b, i as u8, n) {
             return false;
         }
         i += 1;
@@ -94,7 +95,7 @@ fn pool_row(entries: u8, b: u8, alive: u8, pools: [u8; 1024], m: usize) -> bool
     while i < 64 {
         let x = pools[base + i];
         if x != 0 {
-            if !elements::cell_ok(entries, b, alive, i as u8, x) {
+            if !validity_element::cell_ok(entries, b, alive, i as u8, x) {
                 return false;
             }
         }
@@ -106,12 +107,12 @@ fn pool_row(entries: u8, b: u8, alive: u8, pools: [u8; 1024], m: usize) -> bool
 fn pools_ok(t: Table, b: u8) -> bool
     ensures { λ r. ⌜ r ≡ poolsOk t b ⌝ }
 {
-    let entries = t.entries;
+    let entries = t.entry_count;
     let pools = t.pools;
-    let nodes = t.nodes;
+    let machines = t.machines;
     let mut i: usize = 0;
     while i < 16 {
-        let n = nodes[i];
+        let n = machines[i];
         if !pool_row(entries, b, n.alive, pools, i) {
             return false;
         }
@@ -121,11 +122,11 @@ fn pools_ok(t: Table, b: u8) -> bool
 }
 
 // Whether machine m is alive: 1 or 0, and 0 where there is none.
-fn alive_at(nodes: [Machine; 16], m: u8) -> u8
-    ensures { λ r. ⌜ r ≡ getD nodes m noMachine .alive ⌝ }
+fn alive_at(machines: [Machine; 16], m: u8) -> u8
+    ensures { λ r. ⌜ r ≡ getD machines m noMachine .alive ⌝ }
 {
     if m < 16 {
-        let n = nodes[m as usize];
+        let n = machines[m as usize];
         return n.alive;
     }
     0
@@ -133,32 +134,32 @@ fn alive_at(nodes: [Machine; 16], m: u8) -> u8
 
 // Slot i, which holds m.
 fn slot_ok(
-    machines: u8,
+    machine_count: u8,
     entries: u8,
     b: u8,
     used: u8,
     i: u8,
-    nodes: [Machine; 16],
+    machines: [Machine; 16],
     m: Message,
 ) -> bool
-    ensures { λ r. ⌜ r ≡ slotOk machines entries b used i (getD nodes (m .to) noMachine .alive) m ⌝ }
+    ensures { λ r. ⌜ r ≡ slotOk «machine_count» entries b used i (getD machines (m .to) noMachine .alive) m ⌝ }
 {
-    let alive = alive_at(nodes, m.to);
-    slots::slot_ok(machines, entries, b, used, i, alive, m)
+    let alive = alive_at(machines, m.to);
+    validity_message::slot_ok(machine_count, entries, b, used, i, alive, m)
 }
 
 fn messages_ok(t: Table, b: u8) -> bool
     ensures { λ r. ⌜ r ≡ messagesOk t b ⌝ }
 {
-    let machines = t.machines;
-    let entries = t.entries;
+    let machine_count = t.machine_count;
+    let entries = t.entry_count;
     let used = t.in_flight;
-    let nodes = t.nodes;
+    let machines = t.machines;
     let messages = t.messages;
     let mut i: usize = 0;
     while i < 128 {
         let m = messages[i];
-        if !slot_ok(machines, entries, b, used, i as u8, nodes, m) {
+        if !slot_ok(machine_count, entries, b, used, i as u8, machines, m) {
             return false;
         }
         i += 1;
@@ -169,21 +170,21 @@ fn messages_ok(t: Table, b: u8) -> bool
 fn root_ok(t: Table) -> bool
     ensures { λ r. ⌜ r ≡ rootOk t ⌝ }
 {
-    let n = t.nodes[0];
+    let n = t.machines[0];
     n.alive == 1
 }
 
 // What machine m has been told.
-fn told_row(machines: u8, nodes: [Machine; 16], told: [u8; 256], m: usize) -> bool
+fn told_row(machine_count: u8, machines: [Machine; 16], told: [u8; 256], m: usize) -> bool
     requires { ⌜ m < 16 ⌝ }
-    ensures { λ r. ⌜ r ≡ all (λ d. toldOk machines (getD nodes d noMachine .alive) m d (getD told (m * 16 + d) 0)) 16 ⌝ }
+    ensures { λ r. ⌜ r ≡ all (λ d. toldOk «machine_count» (getD machines d noMachine .alive) m d (getD told (m * 16 + d) 0)) 16 ⌝ }
 {
     let base = m * 16;
     let mut i: usize = 0;
     while i < 16 {
-        let n = nodes[i];
+        let n = machines[i];
         let x = told[base + i];
-        if !elements::told_ok(machines, n.alive, m as u8, i as u8, x) {
+        if !validity_element::told_ok(machine_count, n.alive, m as u8, i as u8, x) {
             return false;
         }
         i += 1;
@@ -194,12 +195,12 @@ fn told_row(machines: u8, nodes: [Machine; 16], told: [u8; 256], m: usize) -> bo
 fn tolds_ok(t: Table) -> bool
     ensures { λ r. ⌜ r ≡ toldsOk t ⌝ }
 {
+    let machine_count = t.machine_count;
     let machines = t.machines;
-    let nodes = t.nodes;
     let told = t.told;
     let mut i: usize = 0;
     while i < 16 {
-        if !told_row(machines, nodes, told, i) {
+        if !told_row(machine_count, machines, told, i) {
             return false;
         }
         i += 1;
@@ -211,11 +212,11 @@ fn tolds_ok(t: Table) -> bool
 pub fn table_ok(t: Table) -> bool
     ensures { λ r. ⌜ r ≡ tableOk t ⌝ }
 {
-    let b = bound(t);
+    let b = max_replica(t);
     sizes_ok(t)
         & bonds_ok(t)
         & jobs_ok(t, b)
-        & nodes_ok(t, b)
+        & machines_ok(t, b)
         & pools_ok(t, b)
         & messages_ok(t, b)
         & root_ok(t)

@@ -1,4 +1,4 @@
-//! The fields of a kept table by their offsets: for naming a byte and for choosing one to damage.
+//! The fields of a snapshot by their offsets: for naming a byte and for choosing one to damage.
 
 use crate::rng::Rng;
 use second::table::*;

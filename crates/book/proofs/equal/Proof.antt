@@ -4,13 +4,13 @@ use Prim.Native.Nat.{_≤_, _-_, _<_}
 use native.Mathlib.Omega.{arith}
 use mathlib.Core.Path.{_≡_, refl, sym, ap, _∙_}
 use lib.ListN.{length, drop, drop-of-length-le}
-use Rattle.book.specs.Book.{same}
+use Rattle.book.specs.Book.{sameBytes}
 use Rattle.book.proofs.Rests.{differ-in-length, both-end, agree, differ}
 use Rattle.book.proofs.equal.Statement.{statement}
 use Rattle.book.proofs.equal.Tie as tie
 
 abbrev Inv-loop : tie.InvT-loop
-Inv-loop a b i₀ i = (i ≤ length a) × (length a ≡ length b) × (same a b ≡ same (drop i a) (drop i b))
+Inv-loop a b i₀ i = (i ≤ length a) × (length a ≡ length b) × (sameBytes a b ≡ sameBytes (drop i a) (drop i b))
 
 abbrev μ-loop : tie.MeasureT-loop
 μ-loop a b i₀ i = length a - i
@@ -35,7 +35,8 @@ returns-3 : tie.Need-returns-3 Inv-loop μ-loop
 returns-3 c =
     let at = c .before in
     let k : length (at .before .before .args .b .now) ≤ at .loop .i = omega arith in
-    sym (at .loop .inv .2 ∙ rw (drop-of-length-le (at .before .before .args .a .now) (c .loop-test .left), drop-of-length-le (at .before .before .args .b .now) k) both-end)
+    sym (at .loop .inv .2
+    ∙ rw (drop-of-length-le (at .before .before .args .a .now) (c .loop-test .left), drop-of-length-le (at .before .before .args .b .now) k) both-end)
 
 pub equal-spec : {M : Type 1} → statement M
 equal-spec =

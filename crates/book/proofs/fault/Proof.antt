@@ -2,7 +2,7 @@
 use mathlib.Core.Path.{_≡_, sym, ap, _∙_}
 use denote.Ref.{now}
 use Rattle.isin.specs.Isin.{verdictOf}
-use Rattle.term.specs.Term.{termOf, termNumber}
+use Rattle.book_term.specs.Term.{termOf, termNumber}
 use Rattle.book.specs.Book.{identifierAt, faultAt}
 use Rattle.book.proofs.Faults.{is-identifier, is-term, by-identifier, by-earlier, by-term}
 use borrow.Author.Needs.{needs}
@@ -17,10 +17,12 @@ passed : (c : tie.Else1) → let a = c .before .before .before .before .args in 
 passed c = sym (verdict-is (c .before)) ∙ c .if1 .left
 
 -- past both tests the fault is that of the term
-term-is : (c : tie.After-read) → let a = c .before .before .before .before .before .before .before .before .args in faultAt (now (a .s)) (a .n) (a .i) ≡ termNumber (c .read .result)
+term-is : (c : tie.After-read) → let a = c .before .before .before .before .before .before .before .before .args in
+    faultAt (now (a .s)) (a .n) (a .i) ≡ termNumber (c .read .result)
 term-is c =
     let l = c .before .before in
-    by-term _ _ _ (passed (l .before .before)) (sym (l .before .seen-before .ensures) ∙ l .if2 .left) ∙ ap termNumber (sym (c .read .ensures ∙ ap termOf (is-term _ _ _)))
+    by-term _ _ _ (passed (l .before .before)) (sym (l .before .seen-before .ensures) ∙ l .if2 .left)
+    ∙ ap termNumber (sym (c .read .ensures ∙ ap termOf (is-term _ _ _)))
 
 returns : tie.Need-returns
 returns c = let e = verdict-is (c .before) in e ∙ sym (by-identifier _ _ _ (λ z. c .if1 .taken (e ∙ z)))

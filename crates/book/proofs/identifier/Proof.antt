@@ -6,7 +6,8 @@ use native.Mathlib.Omega.{arith}
 use denote.Ref.{now}
 use Rattle.book.specs.Book.{bookVerdict}
 use Rattle.book.specs.Parts.{entryCount}
-use Rattle.book.proofs.Accepted.{accepted, accepted-size, identifier-whole, identifier-below, identifier-past, identifier-refused, number-refused, number-past, number-below}
+use Rattle.book.proofs.Accepted.{accepted, accepted-size, identifier-whole, identifier-below, identifier-past, identifier-refused}
+use Rattle.book.proofs.Accepted.{number-refused, number-past, number-below}
 use borrow.Author.Needs.{needs}
 use Rattle.book.proofs.identifier.Statement.{statement}
 use Rattle.book.proofs.identifier.Tie as tie
@@ -28,8 +29,10 @@ below : (c : tie.Else2) → c .before .before .before .before .before .args .i <
 below c = rw (count (c .before)) at (c .if2 .left)
 
 returns : tie.Need-returns
-returns c =
-    (c .empty-part .ensures ∙ identifier-refused _ _ (refused (c .before)), c .before .before .verdict .ensures ∙ number-refused _ _ (refused (c .before)))
+returns c = (
+  c .empty-part .ensures ∙ identifier-refused _ _ (refused (c .before)),
+  c .before .before .verdict .ensures ∙ number-refused _ _ (refused (c .before)),
+)
 
 u16-at-requires : tie.Need-u16-at-requires
 u16-at-requires c κs = let a = accepted _ (zero c) in omega (arith, a .four)

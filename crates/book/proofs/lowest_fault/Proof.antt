@@ -21,13 +21,16 @@ loop-holds : tie.Need-loop-holds Inv-loop μ-loop
 loop-holds c = (search needs, least-none _)
 
 returns : tie.Need-returns Inv-loop μ-loop
-returns c = let e = c .before .fault .ensures in e ∙ first-fault _ _ (c .before .before .before .loop .i) (search needs) (c .before .before .before .loop .inv .1) (λ z. c .if1 .taken (e ∙ z))
+returns c = let e = c .before .fault .ensures in
+    e ∙ first-fault _ _ (c .before .before .before .loop .i) (search needs) (c .before .before .before .loop .inv .1) (λ z. c .if1 .taken (e ∙ z))
 
 loop-again : tie.Need-loop-again Inv-loop μ-loop
-loop-again c = (search needs, least-more _ _ (c .before .before .before .loop .inv .1) (ap not (eq-eqb _ _ (sym (c .before .fault .ensures) ∙ c .if1 .left))))
+loop-again c =
+    (search needs, least-more _ _ (c .before .before .before .loop .inv .1) (ap not (eq-eqb _ _ (sym (c .before .fault .ensures) ∙ c .if1 .left))))
 
 returns-2 : tie.Need-returns-2 Inv-loop μ-loop
-returns-2 c = no-fault _ _ (sym (least-end _ _ _ (search needs) (search needs) (c .before .loop .inv .1)) ∙ le-antisymm (c .before .loop .inv .0) (c .loop-test .left))
+returns-2 c = no-fault _ _ (sym (least-end _ _ _ (search needs) (search needs) (c .before .loop .inv .1))
+    ∙ le-antisymm (c .before .loop .inv .0) (c .loop-test .left))
 
 pub lowest-fault-spec : {M : Type 1} → statement M
 lowest-fault-spec =

@@ -20,10 +20,16 @@ loop-holds : tie.Need-loop-holds Inv-loop μ-loop
 loop-holds c = (search needs, search needs, search needs, all-none _)
 
 returns : tie.Need-returns Inv-loop μ-loop
-returns c = found _ _ (c .before .before .before .before .before .loop .k) (search needs) (compared _ _ _ _ (c .before .equal .ensures) ∙ ap not (c .if1 .taken))
+returns c = found _ _ (c .before .before .before .before .before .loop .k) (search needs)
+    (compared _ _ _ _ (c .before .equal .ensures) ∙ ap not (c .if1 .taken))
 
 loop-again : tie.Need-loop-again Inv-loop μ-loop
-loop-again c = (search needs, search needs, search needs, all-more _ _ (c .before .before .before .before .before .loop .inv .3) (compared _ _ _ _ (c .before .equal .ensures) ∙ ap not (c .if1 .left)))
+loop-again c = (
+  search needs,
+  search needs,
+  search needs,
+  all-more _ _ (c .before .before .before .before .before .loop .inv .3) (compared _ _ _ _ (c .before .equal .ensures) ∙ ap not (c .if1 .left)),
+)
 
 returns-2 : tie.Need-returns-2 Inv-loop μ-loop
 returns-2 c = missed _ _ (all-end _ _ _ (search needs) (search needs) (c .before .loop .inv .3))

@@ -5,17 +5,19 @@ use denote.Ref.{now}
 use borrow.Author.Tests.{not-true, not-false}
 use native.Mathlib.Omega.{arith}
 use Rattle.lists.proofs.Rules.{flags}
-use Rattle.book.specs.Book.{machinesOf, entriesOf, sizesInRange, bookVerdict}
+use Rattle.book.specs.Book.{rawMachineCount, rawEntryCount, sizesInRange, bookVerdict}
 use Rattle.book.proofs.Accepted.{sizes}
 use borrow.Author.Needs.{needs}
 use Rattle.book.proofs.verdict.Statement.{statement}
 use Rattle.book.proofs.verdict.Tie as tie
 
 -- the test of the sizes, in the definition's words
-sizes-is : (c : tie.After-sizes-in-range) → let s = now (c .before .before .before .before .before .args .s) in sizesInRange (machinesOf s) (entriesOf s) ≡ c .sizes-in-range .result
+sizes-is : (c : tie.After-sizes-in-range) → let s = now (c .before .before .before .before .before .args .s) in
+    sizesInRange (rawMachineCount s) (rawEntryCount s) ≡ c .sizes-in-range .result
 sizes-is c = sym (c .sizes-in-range .ensures ∙ rw (c .before .u16-at2 .ensures, c .before .before .u16-at .ensures))
 
-passed : (c : tie.Else2) → let s = now (c .before .before .before .before .before .before .args .s) in sizesInRange (machinesOf s) (entriesOf s) ≡ true
+passed : (c : tie.Else2) → let s = now (c .before .before .before .before .before .before .args .s) in
+    sizesInRange (rawMachineCount s) (rawEntryCount s) ≡ true
 passed c = sizes-is (c .before) ∙ not-false _ (c .if2 .left)
 
 returns : tie.Need-returns
@@ -31,7 +33,8 @@ unfolding bookVerdict
 returns-3 c = rw (passed (c .before)) (rw (← c .before .before .before .u16-at2 .ensures) (search flags))
 
 lowest-fault-requires : tie.Need-lowest-fault-requires
-lowest-fault-requires c κs = (search needs, omega (arith, sizes _ _ (sym (c .before .before .sizes-in-range .ensures) ∙ not-false _ (c .before .if2 .left)) .entries-most))
+lowest-fault-requires c κs =
+    (search needs, omega (arith, sizes _ _ (sym (c .before .before .sizes-in-range .ensures) ∙ not-false _ (c .before .if2 .left)) .entry-count-most))
 
 returns-4 : tie.Need-returns-4
 unfolding bookVerdict

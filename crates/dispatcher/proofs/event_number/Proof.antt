@@ -35,21 +35,24 @@ unfolding eventOf
 returns-4 c = search flags
 
 done-number-requires : tie.Need-done-number-requires
-done-number-requires c κs = let p = c .before .before .before .before .before .pre in machines-below _ (p .0) _ _ _ (p .1) (ap (λ (k : ℕ). twoMachines k) (c .if5 .taken)) .0
+done-number-requires c κs = let p = c .before .before .before .before .before .pre in
+    machines-below _ (p .0) _ _ _ (p .1) (ap (λ (k : ℕ). twoMachines k) (c .if5 .taken)) .0
 
 returns-5 : tie.Need-returns-5
 unfolding eventOf
 returns-5 c = search flags
 
 die-number-requires : tie.Need-die-number-requires
-die-number-requires c κs = let p = c .before .before .before .before .before .before .pre in machines-below _ (p .0) _ _ _ (p .1) (ap (λ (k : ℕ). twoMachines k) (c .if6 .taken)) .0
+die-number-requires c κs = let p = c .before .before .before .before .before .before .pre in
+    machines-below _ (p .0) _ _ _ (p .1) (ap (λ (k : ℕ). twoMachines k) (c .if6 .taken)) .0
 
 returns-6 : tie.Need-returns-6
 unfolding eventOf
 returns-6 c = search flags
 
 notice-number-requires : tie.Need-notice-number-requires
-notice-number-requires c κs = let p = c .before .before .before .before .before .before .before .pre in machines-below _ (p .0) _ _ _ (p .1) (ap (λ (k : ℕ). twoMachines k) (c .if7 .taken))
+notice-number-requires c κs = let p = c .before .before .before .before .before .before .before .pre in
+    machines-below _ (p .0) _ _ _ (p .1) (ap (λ (k : ℕ). twoMachines k) (c .if7 .taken))
 
 returns-7 : tie.Need-returns-7
 unfolding eventOf

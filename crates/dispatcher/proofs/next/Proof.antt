@@ -5,19 +5,19 @@ use mathlib.Core.Path.{sym, ap, _∙_}
 use Rattle.table.specs.declared.Answer.{Answer}
 use Rattle.table.proofs.Long.{long}
 use Rattle.dispatcher.proofs.Accepted.{answer-event}
-use Rattle.dispatcher.proofs.Form.{formed-long}
+use Rattle.dispatcher.proofs.Form.{wellFormed-long}
 use Rattle.dispatcher.proofs.Ready.{ready}
 use Rattle.dispatcher.proofs.next.Statement.{statement}
 use Rattle.dispatcher.proofs.next.Tie as tie
 
 shared-slice-read-code : tie.Need-shared-slice-read-code
-shared-slice-read-code c = let l = formed-long _ (answer-event _ _ (c .before .before .pre .1) .0) in search needs
+shared-slice-read-code c = let l = wellFormed-long _ (answer-event _ _ (c .before .before .pre .1) .0) in search needs
 
 shared-slice-read-a : tie.Need-shared-slice-read-a
-shared-slice-read-a c = let l = formed-long _ (answer-event _ _ (c .before .before .before .pre .1) .0) in search needs
+shared-slice-read-a c = let l = wellFormed-long _ (answer-event _ _ (c .before .before .before .pre .1) .0) in search needs
 
 shared-slice-read-b : tie.Need-shared-slice-read-b
-shared-slice-read-b c = let l = formed-long _ (answer-event _ _ (c .before .before .before .before .pre .1) .0) in search needs
+shared-slice-read-b c = let l = wellFormed-long _ (answer-event _ _ (c .before .before .before .before .pre .1) .0) in search needs
 
 event-table-requires : tie.Need-event-table-requires
 event-table-requires c κs =

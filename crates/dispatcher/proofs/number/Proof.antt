@@ -1,39 +1,45 @@
--- `dispatcher::number` meets its contract. Past the first two tests the event is formed, past the third its numbers are those of the table.
+-- `dispatcher::number` meets its contract. Past the first two tests the event is well formed, past the third its numbers are those of the table.
 -- Assumes nothing.
 use borrow.Author.Needs.{needs}
 use borrow.Author.Tests.{not-false, not-true}
 use mathlib.Core.Bool.{true}
 use mathlib.Core.Path.{_∙_, _≡_, sym}
 use Rattle.table.proofs.Long.{long}
-use Rattle.dispatcher.proofs.Form.{formed-is, formed-short}
+use Rattle.dispatcher.proofs.Form.{wellFormed-is, wellFormed-short}
 use Rattle.dispatcher.proofs.Ready.{ready}
-use Rattle.dispatcher.specs.Step.{answerOf, formed}
+use Rattle.dispatcher.specs.Step.{answerOf, wellFormed}
 use Rattle.dispatcher.proofs.number.Statement.{statement}
 use Rattle.dispatcher.proofs.number.Tie as tie
 
-fits : (c : tie.Else2) → formed (c .before .before .before .before .before .before .before .args .bytes .now) ≡ true
-fits c = formed-is _ (c .before .before .before .before .before .if1 .left) ∙ sym (c .before .formed .ensures) ∙ not-false _ (c .if2 .left)
+fits : (c : tie.Else2) → wellFormed (c .before .before .before .before .before .before .before .args .bytes .now) ≡ true
+fits c = wellFormed-is _ (c .before .before .before .before .before .if1 .left) ∙ sym (c .before .well-formed .ensures) ∙ not-false _ (c .if2 .left)
 
 returns : tie.Need-returns
 unfolding answerOf
-returns c = rw (formed-short _ (c .if1 .taken))
+returns c = rw (wellFormed-short _ (c .if1 .taken))
 
 returns-2 : tie.Need-returns-2
 unfolding answerOf
-returns-2 c = rw (formed-is (c .before .before .before .before .before .before .before .args .bytes .now) (c .before .before .before .before .before .if1 .left) ∙ sym (c .before .formed .ensures) ∙ not-true _ (c .if2 .taken))
+returns-2 c = rw (wellFormed-is (c .before .before .before .before .before .before .before .args .bytes .now)
+    (c .before .before .before .before .before .if1 .left) ∙ sym (c .before .well-formed .ensures) ∙ not-true _ (c .if2 .taken))
 
 returns-3 : tie.Need-returns-3
 unfolding answerOf
-returns-3 c = rw (fits (c .before .before), sym (c .before .numbered .ensures) ∙ not-true _ (c .if3 .taken))
+returns-3 c = rw (fits (c .before .before), sym (c .before .indices-in-range .ensures) ∙ not-true _ (c .if3 .taken))
 
 event-number-requires : tie.Need-event-number-requires
 event-number-requires c κs =
     let s = c .before .before .before .before .before .before .before .before .before in
-    (ready (s .args .t) (long (s .args .t) _ (s .good .0)) (s .pre), sym (c .before .numbered .ensures) ∙ not-false _ (c .if3 .left))
+    (ready (s .args .t) (long (s .args .t) _ (s .good .0)) (s .pre), sym (c .before .indices-in-range .ensures) ∙ not-false _ (c .if3 .left))
 
 returns-4 : tie.Need-returns-4
 unfolding answerOf
-returns-4 c = rw (c .event-number .ensures, fits (c .before .before .before), sym (c .before .before .numbered .ensures) ∙ not-false _ (c .before .if3 .left))
+returns-4 c =
+    rw (
+      c .event-number .ensures,
+      fits (c .before .before .before),
+      sym (c .before .before .indices-in-range .ensures) ∙ not-false _ (c .before .if3 .left),
+    )
 
 pub number-spec : {M : Type 1} → statement M
 number-spec =

@@ -1,16 +1,16 @@
 -- `isin::has_form` meets its contract: the length, and then the three parts. Assumes nothing.
 use borrow.Author.Tests.{eq-eqb, ne-eqb}
-use Rattle.isin.specs.Isin.{formed}
+use Rattle.isin.specs.Isin.{hasForm}
 use borrow.Author.Needs.{needs}
 use Rattle.isin.proofs.has_form.Statement.{statement}
 use Rattle.isin.proofs.has_form.Tie as tie
 
 returns : tie.Need-returns
-unfolding formed
+unfolding hasForm
 returns c = rw (ne-eqb _ _ (c .if1 .taken))
 
 returns-2 : tie.Need-returns-2
-unfolding formed
+unfolding hasForm
 returns-2 c = rw (eq-eqb _ _ (c .before .before .before .before .before .before .if1 .left)) (cc)
 
 pub has-form-spec : {M : Type 1} → statement M

@@ -7,13 +7,13 @@ use mathlib.Core.Path.{_≡_, sym, _∙_}
 use mathlib.Core.Bool.{true, false}
 use denote.Ref.{now}
 use lib.ListN.{length}
-use Rattle.isin.specs.Isin.{formed, total, verdictOf}
+use Rattle.isin.specs.Isin.{hasForm, total, verdictOf}
 use Rattle.isin.proofs.Form.{twelve}
 use Rattle.isin.proofs.verdict.Statement.{statement}
 use Rattle.isin.proofs.verdict.Tie as tie
 
 -- past the first test the identifier has the form
-past : (c : tie.Else1) → formed (now (c .before .before .before .args .id)) ≡ true
+past : (c : tie.Else1) → hasForm (now (c .before .before .before .args .id)) ≡ true
 past c = sym (c .before .has-form .ensures) ∙ not-false _ (c .if1 .left)
 
 long : (c : tie.Else1) → length (now (c .before .before .before .args .id)) ≡ 12
@@ -34,11 +34,23 @@ shared-slice-read-value c = let n = long (c .before .before .before) in search n
 
 returns-2 : tie.Need-returns-2
 unfolding verdictOf total
-returns-2 c = rw (past (c .before .before .before .before .before), sym (c .before .before .before .sum .ensures .0), sym (c .before .value .ensures .0), eq-eqb _ _ (c .if2 .taken))
+returns-2 c =
+    rw (
+      past (c .before .before .before .before .before),
+      sym (c .before .before .before .sum .ensures .0),
+      sym (c .before .value .ensures .0),
+      eq-eqb _ _ (c .if2 .taken),
+    )
 
 returns-3 : tie.Need-returns-3
 unfolding verdictOf total
-returns-3 c = rw (past (c .before .before .before .before .before), sym (c .before .before .before .sum .ensures .0), sym (c .before .value .ensures .0), ne-eqb _ _ (c .if2 .left))
+returns-3 c =
+    rw (
+      past (c .before .before .before .before .before),
+      sym (c .before .before .before .sum .ensures .0),
+      sym (c .before .value .ensures .0),
+      ne-eqb _ _ (c .if2 .left),
+    )
 
 pub verdict-spec : {M : Type 1} → statement M
 verdict-spec =

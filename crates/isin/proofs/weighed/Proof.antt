@@ -1,5 +1,5 @@
--- `isin::weighed` meets its contract. The table's rule, that the entry at d is the sum of the digits of twice d, is one test, computed over the ten entries
--- and then handed to any one of them. Assumes nothing.
+-- `isin::weighed` meets its contract. The table's rule, that the entry at d is the sum of the digits of twice d, is one test, computed over the ten
+-- entries and then handed to any one of them. Assumes nothing.
 use borrow.Author.Needs.{needs}
 use borrow.Author.Tests.{eqb-true, ltb-true}
 use mathlib.Core.Path.{_≡_, refl, sym, ap, _∙_}

@@ -3,8 +3,8 @@ use mathlib.Core.Path.{ap, _∙_}
 use native.Mathlib.Omega.{arith}
 use lib.ListN.{length, length-take}
 use Rattle.validity.specs.Validity.{tableOk}
-use Rattle.run.specs.Run.{bytesMost}
-use Rattle.fresh.proofs.Passes.{fresh-passes}
+use Rattle.page_run.specs.Run.{bytesMost}
+use Rattle.theorem_fresh.proofs.Passes.{fresh-passes}
 use Rattle.page.proofs.Opened.{verdict-small}
 use Rattle.page.proofs.Pages.{short-printed, short-buffer, page-printed, page-buffer, refused-written, accepted-written}
 use Rattle.page.proofs.Reports.{front-reported}
@@ -20,14 +20,17 @@ returns c =
     (p, (q, front-reported (a .book .now) (a .events .now) (a .out .now) _ _ p q))
 
 put-book-refused-requires : tie.Need-put-book-refused-requires
-put-book-refused-requires c κs =
-    (omega arith, omega (arith, verdict-small (c .before .before .before .before .before .before .before .args .book .now), c .before .before .verdict .ensures))
+put-book-refused-requires c κs = (
+  omega arith,
+  omega (arith, verdict-small (c .before .before .before .before .before .before .before .args .book .now), c .before .before .verdict .ensures),
+)
 
 returns-2 : tie.Need-returns-2
 returns-2 c =
     let a = c .before .before .before .before .before .before .before .before .before .before .args in
     let v = c .before .before .before .before .before .verdict in
-    let w = refused-written (a .book .now) (a .events .now) (v .result) (v .ensures) (c .before .before .before .before .if2 .taken) (c .before .before .put-book-refused .ensures) in
+    let w = refused-written (a .book .now) (a .events .now) (v .result) (v .ensures) (c .before .before .before .before .if2 .taken)
+    (c .before .before .put-book-refused .ensures) in
     let h = c .before .before .before .before .before .before .if1 .left in
     let p = page-printed (a .book .now) (a .events .now) (a .out .now) h _ _ w in
     let q = page-buffer (a .book .now) (a .events .now) (a .out .now) h _ _ w in
@@ -48,7 +51,8 @@ returns-3 c =
     let v = c .before .before .before .before .before .before .before .verdict in
     let t = c .before .before .before .before .before .fresh in
     let f = c .before .before .before .before .first-bytes in
-    let w = accepted-written (a .book .now) (a .events .now) (v .result) (v .ensures) (t .result) (f .result .now) (omega arith) (t .ensures) (f .ensures) (c .before .before .put-run .ensures) in
+    let w = accepted-written (a .book .now) (a .events .now) (v .result) (v .ensures) (t .result) (f .result .now) (omega arith) (t .ensures)
+    (f .ensures) (c .before .before .put-run .ensures) in
     let h = c .before .before .before .before .before .before .before .before .if1 .left in
     let p = page-printed (a .book .now) (a .events .now) (a .out .now) h _ _ w in
     let q = page-buffer (a .book .now) (a .events .now) (a .out .now) h _ _ w in

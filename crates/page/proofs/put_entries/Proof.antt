@@ -10,8 +10,8 @@ use Rattle.book.specs.Parts.{entryCount, identifierOf}
 use Rattle.book.proofs.Accepted.{identifier-whole, identifier-below}
 use Rattle.table.specs.Views.{jobAt}
 use Rattle.table.proofs.Long.{long}
-use Rattle.opening.proofs.Counts as counts
-use Rattle.run.proofs.Events.{passed-sized}
+use Rattle.table_opening.proofs.Counts as counts
+use Rattle.page_run.proofs.Events.{passed-sized}
 use Rattle.page.specs.Page.{entriesText}
 use Rattle.page.proofs.Longest.{lineOf, identifier-most, replica-small, lines-most}
 use Rattle.page.proofs.Pages.{line-written}
@@ -25,13 +25,14 @@ abbrev μ-loop : tie.MeasureT-loop
 μ-loop book out₀ at t n end₀ i₀ out end i = n - i
 
 loop-holds : tie.Need-loop-holds Inv-loop μ-loop
-loop-holds c = let a = c .before .before .before .args in (omega arith, refl, joined-none (lineOf (a .book .now) (a .t2)) (a .out .now) (a .at) (omega arith))
+loop-holds c = let a = c .before .before .before .args in
+    (omega arith, refl, joined-none (lineOf (a .book .now) (a .t2)) (a .out .now) (a .at) (omega arith))
 
 mul-v : tie.Need-mul-v Inv-loop μ-loop
-mul-v c = omega (arith, counts.entries-most (c .before .before .before .before .before .args .book .now))
+mul-v c = omega (arith, counts.entry-count-most (c .before .before .before .before .before .args .book .now))
 
 element-copy-out-v : tie.Need-element-copy-out-v Inv-loop μ-loop
-element-copy-out-v c = omega (arith, counts.entries-most (c .before .before .before .before .before .args .book .now))
+element-copy-out-v c = omega (arith, counts.entry-count-most (c .before .before .before .before .before .args .book .now))
 
 -- in a turn the entry is one of the book's
 below : (c : tie.In-loop Inv-loop μ-loop) → c .before .loop .i < entryCount (c .before .before .before .before .before .args .book .now)
@@ -42,7 +43,8 @@ identifier-at-requires c κs = identifier-whole _ _ (below (c .before .before))
 
 -- the part that is handed over is the entry's identifier
 identifier-is : (c : tie.After-identifier-at Inv-loop μ-loop)
-    → c .identifier-at .result .now ≡ identifierOf (c .before .before .before .before .before .before .before .before .args .book .now) (c .before .before .before .before .loop .i)
+    → c .identifier-at .result .now ≡ identifierOf (c .before .before .before .before .before .before .before .before .args .book .now)
+    (c .before .before .before .before .loop .i)
 identifier-is c = c .identifier-at .ensures ∙ identifier-below _ _ (below (c .before .before .before))
 
 put-entry-requires : tie.Need-put-entry-requires Inv-loop μ-loop
@@ -52,7 +54,7 @@ put-entry-requires c κs =
     let a = s .args in
     let l = c .before .before .before .before .loop in
     let z = passed-sized (a .t2) (long (a .t2) _ (s .good .1 .0)) (s .pre .0) in
-    let n = counts.entries-most (a .book .now) in
+    let n = counts.entry-count-most (a .book .now) in
     let i = ap length (identifier-is c) in (
       omega (arith, i, identifier-most (a .book .now) (l .i), l .inv .2 .end, lines-most (a .book .now) (a .t2) z (s .pre .0) (l .i) (omega arith)),
       replica-small (a .book .now) (a .t2) z (s .pre .0) (l .i) (omega arith),
@@ -67,10 +69,11 @@ loop-again c =
     let w = c .before .before .put-entry in
     let i = c .before .before .before in
     let z = passed-sized (a .t2) (long (a .t2) _ (s .good .1 .0)) (s .pre .0) in
-    let n = counts.entries-most (a .book .now) in (
+    let n = counts.entry-count-most (a .book .now) in (
       omega arith,
       w .kept .0 ∙ l .inv .1,
-      joined-more (lineOf (a .book .now) (a .t2)) (l .inv .2) (line-written (a .book .now) (a .t2) (l .i) (i .identifier-at .result .now) (identifier-is i) (w .ensures))
+      joined-more (lineOf (a .book .now) (a .t2)) (l .inv .2) (line-written (a .book .now) (a .t2) (l .i) (i .identifier-at .result .now)
+          (identifier-is i) (w .ensures))
           (omega (arith, s .pre .1, lines-most (a .book .now) (a .t2) z (s .pre .0) (l .i + 1) (omega arith))),
     )
 

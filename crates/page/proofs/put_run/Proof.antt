@@ -1,8 +1,8 @@
 -- `page::put_run` meets its contract. Assumes nothing.
 use native.Mathlib.Omega.{arith}
 use Rattle.table.proofs.Long.{long}
-use Rattle.run.specs.Run.{eventsIn}
-use Rattle.run.proofs.Events.{passed-sized, run-passes}
+use Rattle.page_run.specs.Run.{eventsIn}
+use Rattle.page_run.proofs.Events.{passed-sized, run-passes}
 use Rattle.page.proofs.Longest.{listed-most, run-most}
 use Rattle.page.proofs.Pages.{run-written}
 use borrow.Author.Needs.{needs}
@@ -24,7 +24,8 @@ returns c =
     let a = s .args in
     let z = passed-sized (a .t) (long (a .t) _ (s .good .1 .0)) (s .pre .0) in
     let n = run-most (a .book .now) (a .t) (a .events .now) z (s .pre .0) (s .pre .1 .0) in
-    run-written (a .book .now) (a .t) (eventsIn (a .events .now)) (c .before .before .before .before .before .before .before .run .ensures) (c .before .before .put-entries .ensures) (omega (arith, n, s .pre .1 .1))
+    run-written (a .book .now) (a .t) (eventsIn (a .events .now)) (c .before .before .before .before .before .before .before .run .ensures)
+    (c .before .before .put-entries .ensures) (omega (arith, n, s .pre .1 .1))
 
 pub put-run-spec : {M : Type 1} → statement M
 put-run-spec = tie.close (tie.spec (λ c κs. search needs) put-entries-requires (λ c. search needs) returns)

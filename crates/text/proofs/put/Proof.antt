@@ -24,7 +24,8 @@ loop-again c =
     let l = c .before .before in
     let a = l .before .args in (
       omega arith,
-      paste-more (a .out .now) (a .at) (a .s .now) (l .loop .j) (l .loop .o) (l .loop .out) (omega arith) (c .before .loop-test .taken) (l .loop .inv .0) (l .loop .inv .1),
+      paste-more (a .out .now) (a .at) (a .s .now) (l .loop .j) (l .loop .o) (l .loop .out) (omega arith) (c .before .loop-test .taken)
+          (l .loop .inv .0) (l .loop .inv .1),
       omega arith,
       rw length-set (l .loop .inv .3),
     )

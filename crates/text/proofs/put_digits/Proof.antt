@@ -1,4 +1,5 @@
--- `text::put_digits` meets its contract. The invariant of its loop: the digits still to be written, written now, give what is to be left in the buffer. Assumes nothing.
+-- `text::put_digits` meets its contract. The invariant of its loop:
+-- the digits still to be written, written now, give what is to be left in the buffer. Assumes nothing.
 use borrow.Author.Needs.{needs}
 use mathlib.Core.Path.{_≡_, refl}
 use Prim.Native.Nat.{_≤_}
@@ -11,7 +12,8 @@ use Rattle.text.proofs.put_digits.Statement.{statement}
 use Rattle.text.proofs.put_digits.Tie as tie
 
 abbrev Inv-loop : tie.InvT-loop
-Inv-loop out₀ at x base width rest₀ i₀ out rest i = (i ≤ width) × (length out ≡ length out₀) × (over out at (lowDigits base i rest) ≡ over out₀ at (lowDigits base width x))
+Inv-loop out₀ at x base width rest₀ i₀ out rest i =
+    (i ≤ width) × (length out ≡ length out₀) × (over out at (lowDigits base i rest) ≡ over out₀ at (lowDigits base width x))
 
 abbrev μ-loop : tie.MeasureT-loop
 μ-loop out₀ at x base width rest₀ i₀ out rest i = i
@@ -28,7 +30,8 @@ loop-again c =
     let a = l .before .before .args in (
       omega arith,
       rw length-set (l .loop .inv .1),
-      digits-more (a .out .now) (l .loop .out) (a .at) (a .base) (a .width) (a .x) (l .loop .i) (l .loop .rest) (c .digit .result) (omega arith) (omega arith) (c .digit .ensures) (l .loop .inv .2),
+      digits-more (a .out .now) (l .loop .out) (a .at) (a .base) (a .width) (a .x) (l .loop .i) (l .loop .rest) (c .digit .result) (omega arith)
+          (omega arith) (c .digit .ensures) (l .loop .inv .2),
     )
 
 returns : tie.Need-returns Inv-loop μ-loop

@@ -9,7 +9,7 @@ use lib.ListN.{getD}
 use Rattle.lists.specs.Scan.{all}
 use Rattle.lists.proofs.Scans.{all-none, all-more, all-fail, all-end}
 use Rattle.table.specs.Views.{parts, pastBond}
-use Rattle.elements.specs.Elements.{bondOk}
+use Rattle.validity_element.specs.Element.{bondOk}
 use Rattle.validity.specs.Validity.{bondsOk}
 use Rattle.validity.proofs.bonds_ok.Statement.{statement}
 use Rattle.validity.proofs.bonds_ok.Tie as tie

@@ -9,7 +9,7 @@ use lib.ListN.{getD}
 use Rattle.lists.specs.Scan.{all}
 use Rattle.lists.proofs.Scans.{all-none, all-more, all-fail, all-end}
 use Rattle.table.specs.Views.{parts, noJob}
-use Rattle.elements.specs.Elements.{jobOk}
+use Rattle.validity_element.specs.Element.{jobOk}
 use Rattle.validity.specs.Validity.{jobsOk}
 use Rattle.validity.proofs.jobs_ok.Statement.{statement}
 use Rattle.validity.proofs.jobs_ok.Tie as tie

@@ -9,16 +9,18 @@ use lib.ListN.{getD}
 use Rattle.lists.specs.Scan.{all}
 use Rattle.lists.proofs.Scans.{all-none, all-more, all-fail, all-end}
 use Rattle.table.specs.Views.{parts, noMachine, noMessage}
-use Rattle.slots.specs.Slots.{slotOk}
+use Rattle.validity_message.specs.Message.{slotOk}
 use Rattle.validity.specs.Validity.{messagesOk}
 use Rattle.validity.proofs.messages_ok.Statement.{statement}
 use Rattle.validity.proofs.messages_ok.Tie as tie
 
 abbrev Inv-loop : tie.InvT-loop
-Inv-loop b machines entries used nodes messages i₀ i = (i ≤ 128) × (all (λ i. slotOk machines entries b used i (getD nodes (getD messages i noMessage .to) noMachine .alive) (getD messages i noMessage)) i ≡ true)
+Inv-loop b machine-count entries used machines messages i₀ i =
+    (i ≤ 128) × (all (λ i. slotOk machine-count entries b used i (getD machines (getD messages i noMessage .to) noMachine .alive)
+    (getD messages i noMessage)) i ≡ true)
 
 abbrev μ-loop : tie.MeasureT-loop
-μ-loop b machines entries used nodes messages i₀ i = 128 - i
+μ-loop b machine-count entries used machines messages i₀ i = 128 - i
 
 loop-holds : tie.Need-loop-holds Inv-loop μ-loop
 loop-holds c = (search tests, all-none _)

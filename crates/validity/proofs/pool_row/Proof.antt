@@ -10,7 +10,7 @@ use lib.ListN.{getD}
 use Rattle.lists.specs.Scan.{all}
 use Rattle.lists.proofs.Scans.{all-none, all-more, all-fail, all-end}
 use Rattle.table.specs.Views.{parts}
-use Rattle.elements.specs.Elements.{cellOk}
+use Rattle.validity_element.specs.Element.{cellOk}
 use Rattle.validity.proofs.pool_row.Statement.{statement}
 use Rattle.validity.proofs.pool_row.Tie as tie
 

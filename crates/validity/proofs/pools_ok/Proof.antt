@@ -9,16 +9,17 @@ use lib.ListN.{getD}
 use Rattle.lists.specs.Scan.{all}
 use Rattle.lists.proofs.Scans.{all-none, all-more, all-fail, all-end}
 use Rattle.table.specs.Views.{parts, noMachine}
-use Rattle.elements.specs.Elements.{cellOk}
+use Rattle.validity_element.specs.Element.{cellOk}
 use Rattle.validity.specs.Validity.{poolRow, poolsOk}
 use Rattle.validity.proofs.pools_ok.Statement.{statement}
 use Rattle.validity.proofs.pools_ok.Tie as tie
 
 abbrev Inv-loop : tie.InvT-loop
-Inv-loop b entries pools nodes i₀ i = (i ≤ 16) × (all (λ m. all (λ j. cellOk entries b (getD nodes m noMachine .alive) j (getD pools (m * 64 + j) 0)) 64) i ≡ true)
+Inv-loop b entries pools machines i₀ i =
+    (i ≤ 16) × (all (λ m. all (λ j. cellOk entries b (getD machines m noMachine .alive) j (getD pools (m * 64 + j) 0)) 64) i ≡ true)
 
 abbrev μ-loop : tie.MeasureT-loop
-μ-loop b entries pools nodes i₀ i = 16 - i
+μ-loop b entries pools machines i₀ i = 16 - i
 
 loop-holds : tie.Need-loop-holds Inv-loop μ-loop
 loop-holds c = (search tests, all-none _)

@@ -9,15 +9,16 @@ use lib.ListN.{getD}
 use Rattle.lists.specs.Scan.{all}
 use Rattle.lists.proofs.Scans.{all-none, all-more, all-fail, all-end}
 use Rattle.table.specs.Views.{parts, noMachine}
-use Rattle.elements.specs.Elements.{toldOk}
+use Rattle.validity_element.specs.Element.{toldOk}
 use Rattle.validity.proofs.told_row.Statement.{statement}
 use Rattle.validity.proofs.told_row.Tie as tie
 
 abbrev Inv-loop : tie.InvT-loop
-Inv-loop machines m nodes told base i₀ i = (i ≤ 16) × (all (λ d. toldOk machines (getD nodes d noMachine .alive) m d (getD told (m * 16 + d) 0)) i ≡ true)
+Inv-loop machine-count m machines told base i₀ i =
+    (i ≤ 16) × (all (λ d. toldOk machine-count (getD machines d noMachine .alive) m d (getD told (m * 16 + d) 0)) i ≡ true)
 
 abbrev μ-loop : tie.MeasureT-loop
-μ-loop machines m nodes told base i₀ i = 16 - i
+μ-loop machine-count m machines told base i₀ i = 16 - i
 
 loop-holds : tie.Need-loop-holds Inv-loop μ-loop
 loop-holds c = (search tests, all-none _)

@@ -9,17 +9,18 @@ use Rattle.lists.specs.Scan.{all}
 use Rattle.lists.proofs.Scans.{all-none, all-more, all-fail, all-end}
 use Rattle.table.specs.Views.{parts}
 use Rattle.table.specs.Views.{noMachine}
-use Rattle.elements.specs.Elements.{toldOk}
+use Rattle.validity_element.specs.Element.{toldOk}
 use lib.ListN.{getD}
 use Rattle.validity.specs.Validity.{toldRow, toldsOk}
 use Rattle.validity.proofs.tolds_ok.Statement.{statement}
 use Rattle.validity.proofs.tolds_ok.Tie as tie
 
 abbrev Inv-loop : tie.InvT-loop
-Inv-loop machines nodes told i₀ i = (i ≤ 16) × (all (λ m. all (λ d. toldOk machines (getD nodes d noMachine .alive) m d (getD told (m * 16 + d) 0)) 16) i ≡ true)
+Inv-loop machine-count machines told i₀ i =
+    (i ≤ 16) × (all (λ m. all (λ d. toldOk machine-count (getD machines d noMachine .alive) m d (getD told (m * 16 + d) 0)) 16) i ≡ true)
 
 abbrev μ-loop : tie.MeasureT-loop
-μ-loop machines nodes told i₀ i = 16 - i
+μ-loop machine-count machines told i₀ i = 16 - i
 
 loop-holds : tie.Need-loop-holds Inv-loop μ-loop
 loop-holds c = (search tests, all-none _)

@@ -1,0 +1,47 @@
+-- A term of the book, document 01, "The book": "A term is: kind (1 zero-coupon, 2 fixed coupon), periods (1 to 240 half-years), a spare byte 0,
+-- annual coupon per 100 of face, annual yield as a fraction. The first three take a byte each; the last two are binary64 bits, little-endian."
+-- Definitions only. The ranges are the pricer's.
+use Prim.Native.Nat.{ℕ}
+use mathlib.Core.Bool.{cond}
+use mathlib.Core.List.{List}
+use lib.Dec.{eqb}
+use lib.ListN.{length, getD}
+use lib.Ieee.{Float, binary64, ofBits}
+use Rattle.endian.specs.Endian.{le64}
+use Rattle.pricer.specs.Range.{inRange}
+use Rattle.pricer.specs.Bonds.{noBond, withTerms}
+use Rattle.pricer.specs.declared.Bond.{Bond}
+use Rattle.pricer.specs.declared.Terms.the-variants.{Zero, Fixed}
+use Rattle.book_term.specs.declared.Reading.{Reading}
+use Rattle.book_term.specs.declared.Reading.the-variants.{Faulty, Valid}
+
+-- the number that 64 bits stand for
+abbrev pub floatOf : ℕ → Float
+floatOf bits = ofBits binary64 bits
+
+-- "Coupon lies from 0 to 100, yield from 0 to 1, ends included; a NaN is outside"
+unfoldable pub checked : Bond → Reading
+checked b = cond (inRange b) (Valid b) Faulty
+
+-- by kind: "a zero-coupon term's coupon has all 64 bits clear"; b is the bond but for its terms
+unfoldable pub termFrom : ℕ → Bond → ℕ → ℕ → Reading
+termFrom kind b coupon ytm =
+    cond (eqb kind 1)
+    (cond (eqb coupon 0) (checked (withTerms b (Zero (floatOf ytm)))) Faulty)
+    (cond (eqb kind 2) (checked (withTerms b (Fixed (floatOf coupon) (floatOf ytm)))) Faulty)
+
+-- what its single bytes say of the bond, with the terms of no bond
+abbrev pub bareBond : List ℕ → Bond
+bareBond s = record { periods = getD s 1 0; terms = noBond .terms }
+
+-- 19 bytes: kind, periods, spare, coupon, yield
+unfoldable pub termOf : List ℕ → Reading
+termOf s =
+    cond (eqb (length s) 19)
+    (cond (eqb (getD s 2 0) 0) (termFrom (getD s 0 0) (bareBond s) (le64 s 3) (le64 s 11)) Faulty)
+    Faulty
+
+-- the number of each case, "Where each refusal is checked": 7 "term outside the rules", or 0
+abbrev pub termNumber : Reading → ℕ
+termNumber Faulty = 7
+termNumber (Valid b) = 0

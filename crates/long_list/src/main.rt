@@ -1,4 +1,0 @@
-// The program on a list of more than 60,000 bytes: "later ones are not read".
-fn main() {
-    console::print_page();
-}

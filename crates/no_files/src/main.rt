@@ -1,4 +1,0 @@
-// The program where there is no file: "A file that cannot be opened counts as empty".
-fn main() {
-    console::print_page();
-}

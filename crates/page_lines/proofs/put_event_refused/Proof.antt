@@ -1,0 +1,38 @@
+-- `page_lines::put_event_refused` meets its contract. Assumes nothing.
+use native.Mathlib.Omega.{arith}
+use Rattle.text.proofs.Digits.{five-digits}
+use Rattle.text.proofs.Over.{then-two}
+use Rattle.page_lines.specs.Lines.{eventRefusedLine}
+use Rattle.page_lines.proofs.Longest.{event-most}
+use borrow.Author.Needs.{needs}
+use Rattle.page_lines.proofs.put_event_refused.Statement.{statement}
+use Rattle.page_lines.proofs.put_event_refused.Tie as tie
+
+put-decimal-requires : tie.Need-put-decimal-requires
+put-decimal-requires c κs = omega (arith, five-digits (c .before .before .before .before .before .before .before .args .place))
+
+put-line-end-requires : tie.Need-put-line-end-requires
+put-line-end-requires c κs = (
+  omega (arith, five-digits (c .before .before .before .before .before .before .before .before .before .before .before .before .args .place)),
+  c .before .before .before .before .before .before .before .before .before .before .before .before .pre .1,
+)
+
+returns : tie.Need-returns
+unfolding eventRefusedLine
+returns c =
+    let s = c .before .before .before .before .before .before .before .before .before .before .before .before .before .before .before in
+    let n = event-most (s .args .place) (s .args .n) (s .pre .1) in
+    then-two (c .before .before .before .before .before .before .before .before .before .before .before .put .ensures)
+    (c .before .before .before .before .before .before .before .put-decimal .ensures) (c .before .before .put-line-end .ensures) (omega arith)
+
+pub put-event-refused-spec : {M : Type 1} → statement M
+put-event-refused-spec =
+    tie.close
+    (tie.spec
+    (λ c. search needs)
+    (λ c κs. search needs)
+    put-decimal-requires
+    (λ c. search needs)
+    put-line-end-requires
+    (λ c. search needs)
+    returns)

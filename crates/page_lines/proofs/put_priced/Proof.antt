@@ -1,0 +1,47 @@
+-- `page_lines::put_priced` meets its contract. Assumes nothing.
+use native.Mathlib.Omega.{arith}
+use lib.ListN.{length-append}
+use Rattle.text.specs.Text.{ascii}
+use Rattle.text.proofs.Digits.{length-hex}
+use Rattle.text.proofs.Over.{then, then-two}
+use Rattle.page_lines.specs.Lines.{pricedLine}
+use Rattle.page_lines.proofs.Longest.{priced-most}
+use borrow.Author.Needs.{needs}
+use Rattle.page_lines.proofs.put_priced.Statement.{statement}
+use Rattle.page_lines.proofs.put_priced.Tie as tie
+
+put-line-end-requires : tie.Need-put-line-end-requires
+put-line-end-requires c κs = (
+  omega (
+    arith,
+    length-hex (c .before .before .before .before .before .before .before .before .before .before .before .before .before .before .before .before
+        .before .args .price),
+  ),
+  c .before .before .before .before .before .before .before .before .before .before .before .before .before .before .before .before .before .pre .1,
+)
+
+returns : tie.Need-returns
+unfolding pricedLine
+returns c =
+    let s =
+    c .before .before .before .before .before .before .before .before .before .before .before .before .before .before .before .before .before .before
+    .before .before in
+    let n = priced-most (s .args .identifier .now) (s .args .price) (s .args .replica) (s .pre .1) in
+    then-two (then
+    (c .before .before .before .before .before .before .before .before .before .before .before .before .before .before .before .before .put .ensures)
+    (c .before .before .before .before .before .before .before .before .before .before .before .put2 .ensures)
+    (omega (arith, length-append (s .args .identifier .now) (ascii " priced "))))
+    (c .before .before .before .before .before .before .before .put-hex .ensures) (c .before .before .put-line-end .ensures) (omega arith)
+
+pub put-priced-spec : {M : Type 1} → statement M
+put-priced-spec =
+    tie.close
+    (tie.spec
+    (λ c κs. search needs)
+    (λ c. search needs)
+    (λ c κs. search needs)
+    (λ c κs. search needs)
+    (λ c. search needs)
+    put-line-end-requires
+    (λ c. search needs)
+    returns)

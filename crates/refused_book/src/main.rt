@@ -1,4 +1,0 @@
-// The program on a book that is refused, with a list of events: "A refused book prints "book refused" and the number, and nothing more."
-fn main() {
-    console::print_page();
-}

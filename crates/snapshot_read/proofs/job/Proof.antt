@@ -1,0 +1,26 @@
+-- `snapshot_read::job` meets its contract. Each field is its bytes. Assumes nothing.
+use Rattle.snapshot_read.specs.Layout.{jobFrom}
+use borrow.Author.Needs.{needs}
+use Rattle.snapshot_read.proofs.job.Statement.{statement}
+use Rattle.snapshot_read.proofs.job.Tie as tie
+
+returns : tie.Need-returns
+unfolding jobFrom
+returns c = cc
+
+pub job-spec : {M : Type 1} → statement M
+job-spec =
+    tie.close
+    (tie.spec
+    (λ c. search needs)
+    (λ c κs. search needs)
+    (λ c. search needs)
+    (λ c. search needs)
+    (λ c. search needs)
+    (λ c. search needs)
+    (λ c. search needs)
+    (λ c. search needs)
+    (λ c. search needs)
+    (λ c. search needs)
+    (λ c. search needs)
+    returns)

@@ -1,0 +1,7 @@
+pub mod Starts
+pub mod Elements
+pub mod Decode
+pub mod Encodable
+pub mod Run
+pub mod Parts
+pub mod Encode

@@ -1,0 +1,59 @@
+-- `snapshot_write::put_jobs` meets its contract. The invariant of its loop: the first i elements are written. Assumes nothing.
+use borrow.Author.Needs.{needs}
+use Prim.Native.Nat.{_+_, _-_, _≤_}
+use mathlib.Core.Path.{_≡_, refl, _∙_}
+use native.Mathlib.Omega.{arith}
+use lib.ListN.{length, getD}
+use Rattle.text.specs.Text.{joined, Written}
+use Rattle.text.proofs.Over.{joined-none, joined-more}
+use Rattle.table.specs.Views.{noJob}
+use Rattle.snapshot_write.specs.Bytes.{jobBytes, jobsBytes}
+use Rattle.snapshot_write.proofs.Lengths.{length-jobs-to}
+use Rattle.snapshot_write.proofs.put_jobs.Statement.{statement}
+use Rattle.snapshot_write.proofs.put_jobs.Tie as tie
+
+abbrev Inv-loop : tie.InvT-loop
+Inv-loop out₀ at jobs end₀ i₀ out end i =
+    (i ≤ 64) × (length out ≡ length out₀) × Written out₀ at (joined (λ k. jobBytes (getD jobs k noJob)) i) out end
+
+abbrev μ-loop : tie.MeasureT-loop
+μ-loop out₀ at jobs end₀ i₀ out end i = 64 - i
+
+loop-holds : tie.Need-loop-holds Inv-loop μ-loop
+loop-holds c = let a = c .before .args in (omega arith, refl, joined-none (λ k. jobBytes (getD (a .t3) k noJob)) (a .out .now) (a .at) (omega arith))
+
+put-job-requires : tie.Need-put-job-requires Inv-loop μ-loop
+put-job-requires c κs = omega (arith, length-jobs-to (c .before .before .before .before .before .args .t3) (c .before .before .before .loop .i))
+
+loop-again : tie.Need-loop-again Inv-loop μ-loop
+loop-again c =
+    let a = c .before .before .before .before .before .before .before .before .args in
+    let l = c .before .before .before .before .before .before .loop in
+    let w = c .before .before .put-job in (
+      omega arith,
+      w .kept .0 ∙ l .inv .1,
+      joined-more (λ k. jobBytes (getD (a .t3) k noJob)) (l .inv .2) (w .ensures) (omega (arith, length-jobs-to (a .t3) (l .i + 1))),
+    )
+
+returns : tie.Need-returns Inv-loop μ-loop
+unfolding jobsBytes
+returns c =
+    let l = c .before .loop in
+    let e : l .i ≡ 64 = omega arith in
+    rw e at (l .inv .2)
+
+pub put-jobs-spec : {M : Type 1} → statement M
+put-jobs-spec =
+    tie.close
+    (tie.spec
+    Inv-loop
+    μ-loop
+    loop-holds
+    (λ c. search needs)
+    (λ c. search needs)
+    put-job-requires
+    (λ c. search needs)
+    (λ c. search needs)
+    loop-again
+    (λ c. search needs)
+    returns)

@@ -1,0 +1,10 @@
+pub mod Reach
+pub mod Preserved
+pub mod Steps
+pub mod Weights
+pub mod Notices
+pub mod Deliveries
+pub mod Results
+pub mod Pooled
+pub mod Jobs
+pub mod Drain

@@ -1,0 +1,11 @@
+-- `validity_element::cell_ok` meets its contract. The definition joins what the functions it calls equal, in the same order.
+-- Assumes nothing.
+use borrow.Author.Needs.{needs}
+use Rattle.validity_element.proofs.cell_ok.Statement.{statement}
+use Rattle.validity_element.proofs.cell_ok.Tie as tie
+
+returns : tie.Need-returns
+returns c = cc
+
+pub cell-ok-spec : {M : Type 1} → statement M
+cell-ok-spec = tie.close (tie.spec (λ c κs. search needs) returns)

@@ -1,0 +1,12 @@
+-- `validity_element::machine_ok` meets its contract. The definition joins what the functions it calls equal, in the same order.
+-- Assumes nothing.
+use borrow.Author.Needs.{needs}
+use Rattle.validity_element.proofs.machine_ok.Statement.{statement}
+use Rattle.validity_element.proofs.machine_ok.Tie as tie
+
+returns : tie.Need-returns
+returns c = cc
+
+pub machine-ok-spec : {M : Type 1} → statement M
+machine-ok-spec =
+    tie.close (tie.spec (λ c κs. search needs) (λ c κs. search needs) (λ c κs. search needs) returns)
