@@ -105,7 +105,7 @@ unfolding runOf
 deaths-run t [] w = omega (arith, count-none kills t)
 deaths-run t (e ∷ es) w = omega (arith, deaths-run (stepOf t e .table) es (invariant-step t e w), deaths-step t w e, count-more kills t e es)
 
--- ---- the bound of the replica numbers
+-- ---- the largest replica number
 
 pub maxReplica-deaths : (t : Table) → Invariant t → maxReplica t ≤ 1 + deaths t
 unfolding maxReplica

@@ -11,7 +11,7 @@ use Rattle.table.specs.declared.Message.{Message}
 use Rattle.table.specs.declared.Table.{Table}
 use Rattle.table.specs.Views.{jobAt, messageAt}
 use Rattle.table.specs.Messages.{oldest}
-use Rattle.table.specs.Parts.{RESULT}
+use Rattle.table.specs.Parts.{RESULT, NOT-ADMITTED, OPEN, PRICED}
 use Rattle.event_notice.specs.Notice.{affected}
 use Rattle.dispatcher.specs.Codes.{ADMIT, DELIVER, DIE, NOTICE}
 use Rattle.dispatcher.specs.Step.{codeOf, firstOf, secondOf, stepOf, isFurther}
@@ -51,11 +51,11 @@ resultsOf j t [] = []
 resultsOf j t (e ∷ es) =
     cond (delivers j t e) (takenOff t e .price ∷ resultsOf j (stepOf t e .table) es) (resultsOf j (stepOf t e .table) es)
 
--- what a job's state is after so many admissions and these results: 0 not admitted, 1 open, 2 priced
+-- what a job's state is after so many admissions and these results: "not admitted, open or priced"
 unfoldable pub stateAfter : ℕ → List ℕ → ℕ
-stateAfter zero [] = 0
-stateAfter (suc n) [] = 1
-stateAfter n (p ∷ ps) = 2
+stateAfter zero [] = NOT-ADMITTED
+stateAfter (suc n) [] = OPEN
+stateAfter n (p ∷ ps) = PRICED
 
 -- "One machine, bond after bond, is fed the book alone. It goes through the entries from the first to the last and gives each the formula's price of
 -- its terms. It knows no table, event or message. Prices are compared as their 64 bits."

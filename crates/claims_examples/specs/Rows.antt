@@ -43,6 +43,7 @@ statedIn (row g s) = s
 abbrev pub zz : ℕ → ℕ → List ℕ
 zz a b = 90 ∷ 90 ∷ 48 ∷ 48 ∷ 48 ∷ 48 ∷ 48 ∷ 48 ∷ 48 ∷ 48 ∷ a ∷ b ∷ []
 
+-- "ZZ0000000016", "ZZ0000000024", "ZZ0000000017" and "US0378331005", in ASCII
 abbrev pub zz16 : List ℕ
 zz16 = zz 49 54
 
@@ -57,6 +58,7 @@ us = 85 ∷ 83 ∷ 48 ∷ 51 ∷ 55 ∷ 56 ∷ 51 ∷ 51 ∷ 49 ∷ 48 ∷ 48 �
 
 -- ---- prices
 
+-- a bond of n periods with these terms
 abbrev pub bond : ℕ → Terms → Bond
 bond n t = record { periods = n; terms = t }
 

@@ -38,7 +38,7 @@ pub record Numbers (t : Table) : Type 0 where
 
 -- "state .. outside its range"
 pub record States (t : Table) : Type 0 where
-  pub job : (j : ℕ) → j < 64 → jobAt t j .state ≤ 2
+  pub job : (j : ℕ) → j < 64 → jobAt t j .state ≤ PRICED
   pub moving : (j : ℕ) → j < 64 → jobAt t j .moving ≤ 1
   pub alive : (m : ℕ) → m < 16 → machineAt t m .alive ≤ 1
   pub told : (m d : ℕ) → m < 16 → d < 16 → toldAt t m d ≤ 1

@@ -1,6 +1,7 @@
 -- Document 01, "The table": the codes of the events, by the names of the events. Definitions only.
 use Prim.Native.Nat.{ℕ}
 
+-- "1. Admit a", "2. Steal a b", "3. Deliver a b", "4. Start a b", "5. Done a", "6. Die a", "7. Notice a b"
 abbrev pub ADMIT : ℕ
 ADMIT = 1
 

@@ -39,7 +39,7 @@ usesSecond code = not (eqb code ADMIT || eqb code DONE || eqb code DIE)
 unfoldable pub wellFormed : List ℕ → Bool
 wellFormed e = leb 3 (length e) && leb 1 (codeOf e) && leb (codeOf e) lastCode && (usesSecond (codeOf e) || eqb (secondOf e) 0)
 
--- Steal, Deliver, Done, Die and Notice: a and b are machine numbers; an unused b is 0 here, and machine 0 is there
+-- Steal, Deliver, Done, Die and Notice: a and b are machine numbers, where an unused b is 0, the number of the root
 abbrev pub twoMachines : ℕ → Bool
 twoMachines code = eqb code STEAL || eqb code DELIVER || eqb code DONE || eqb code DIE || eqb code NOTICE
 
@@ -51,7 +51,7 @@ indicesInRange t code a b =
     (cond (eqb code START) (ltb a (t .«machine_count») && ltb b (t .«entry_count»))
     true))
 
--- the event of a code
+-- the event of a code; a code of no event, which refusal 10 has answered before, gets 10
 unfoldable pub eventOf : Table → ℕ → ℕ → ℕ → Answer
 eventOf t code a b =
     cond (eqb code ADMIT) (admitOf t a)

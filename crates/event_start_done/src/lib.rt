@@ -1,4 +1,4 @@
-// Events 4 and 5, the work itself, on a table that passed check 9, for machine and entry numbers in range: Start and Done.
+// Events 4 and 5 on a table that passed check 9, for machine and entry numbers in range: Start and Done.
 // An event is a number, by the chain of its refusals in document 01's order, and the table after it where that number is 0.
 ghost use mathlib.Core.Path.{_≡_};
 ghost use Prim.Native.Nat.{_<_};

@@ -35,7 +35,7 @@ doubled d = 2 * d / 10 + 2 * d % 10
 abbrev pub weight : Bool → ℕ → ℕ
 weight twice d = cond twice (doubled d) d
 
--- "From the right end .., the first, third, fifth digit and so on are doubled": whether the digit is that has the digits ds to its right
+-- "From the right end .., the first, third, fifth digit and so on are doubled": whether the digit that has the digits ds to its right is doubled
 unfoldable pub twice : List ℕ → Bool
 twice [] = true
 twice (d ∷ ds) = not (twice ds)

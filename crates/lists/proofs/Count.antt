@@ -1,12 +1,12 @@
--- Counting: how many elements of a list pass a test, and sums over the first n numbers. Assumes nothing.
+-- Counting: how many elements of a list pass a test. Assumes nothing.
 use mathlib.Core.Path.{_≡_, refl, sym, ap, _∙_}
 use mathlib.Core.Logic.{_≢_}
-use mathlib.Core.Bool.{Bool, true, false, not, cond, _&&_, true≢false}
+use mathlib.Core.Bool.{Bool, true, false, _&&_, true≢false}
 use mathlib.Core.List.{List, [], _∷_, _++_}
 use Prim.Native.Nat.{ℕ, zero, suc, _+_, _≤_, _<_}
 use native.Mathlib.Nat.{not-suc-le-zero, le-of-suc-le-suc}
 use native.Mathlib.Omega.{arith}
-use lib.ListN.{length, getD, take, drop, replicate}
+use lib.ListN.{length, getD, replicate}
 use lib.Dec.{ltb}
 use borrow.Author.Tests.{ltb-true, ltb-false}
 use Rattle.lists.specs.Scan.{filter, without, least, countTo}
@@ -30,12 +30,6 @@ unfolding without
 count-delete p [] i d h = absurd (not-suc-le-zero h)
 count-delete p (x ∷ xs) zero d h = refl
 count-delete p (x ∷ xs) (suc i) d h = omega (arith, count-delete p xs i d (le-of-suc-le-suc h))
-
-pub length-delete : {A : Type 0} (xs : List A) (i : ℕ) → i < length xs → suc (length (without i xs)) ≡ length xs
-unfolding without
-length-delete [] i h = absurd (not-suc-le-zero h)
-length-delete (x ∷ xs) zero h = refl
-length-delete (x ∷ xs) (suc i) h = ap suc (length-delete xs i (le-of-suc-le-suc h))
 
 -- ---- every element
 
@@ -87,31 +81,6 @@ unfolding filter
 count-filter-le p q [] = omega arith
 count-filter-le p q (x ∷ xs) =
     byBool (q x) (λ e. rw (e, filter) (omega (arith, count-filter-le p q xs))) (λ e. rw (e, filter) (omega (arith, count-filter-le p q xs)))
-
--- ---- sums
-
-unfoldable pub sumTo : ℕ → (ℕ → ℕ) → ℕ
-sumTo zero f = 0
-sumTo (suc n) f = f n + sumTo n f
-
-pub sum-same : (n : ℕ) (f g : ℕ → ℕ) → ((k : ℕ) → k < n → f k ≡ g k) → sumTo n f ≡ sumTo n g
-unfolding sumTo
-sum-same zero f g h = refl
-sum-same (suc n) f g h = omega (arith, h n (omega arith), sum-same n f g (λ k l. h k (omega arith)))
-
-pub sum-le : (n : ℕ) (f g : ℕ → ℕ) → ((k : ℕ) → k < n → f k ≤ g k) → sumTo n f ≤ sumTo n g
-unfolding sumTo
-sum-le zero f g h = omega arith
-sum-le (suc n) f g h = omega (arith, h n (omega arith), sum-le n f g (λ k l. h k (omega arith)))
-
--- the two differ at m only
-pub sum-at : (n m : ℕ) (f g : ℕ → ℕ) → m < n → ((k : ℕ) → k < n → k ≢ m → f k ≡ g k) → sumTo n f + g m ≡ sumTo n g + f m
-unfolding sumTo
-sum-at zero m f g l h = absurd (not-suc-le-zero l)
-sum-at (suc n) m f g l h =
-    byEq n m
-    (λ e. omega (arith, ap f e, ap g e, sum-same n f g (λ k a. h k (omega arith) (omega arith))))
-    (λ e. omega (arith, h n (omega arith) e, sum-at n m f g (omega arith) (λ k a. h k (omega arith))))
 
 -- ---- one test against another
 

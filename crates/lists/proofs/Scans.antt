@@ -1,4 +1,4 @@
--- The laws that a loop over indices uses, of `all`, `least`, `first` and `filter`.
+-- The laws that a loop over indices uses, of `all`, `least`, `filter`, `padTo`, `without`, `upTo`, `tabulate` and `countTo`.
 -- Assumes nothing.
 use Prim.Native.Nat.{ℕ, zero, suc, _+_, _-_, _≤_, _<_}
 use mathlib.Core.Path.{_≡_, refl, sym, ap, _∙_, subst}

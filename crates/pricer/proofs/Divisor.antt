@@ -17,7 +17,7 @@ use lib.Ieee.Exact.{HasValue, round-exact}
 use lib.Ieee.Order.{round-mono}
 use lib.Ieee.Positive.{positive, between}
 use Rattle.pricer.specs.Price.{one}
-use Rattle.pricer.proofs.Signs.{positiveOrZero, nonNegative, positiveOrZero-nonNegative, round-positiveOrZero, not-zero, minus, sum-is}
+use Rattle.pricer.proofs.Signs.{signClear, nonNegative, signClear-nonNegative, round-signClear, not-zero, minus, sum-is}
 
 -- ---- d = 1 + q is finite and above zero for q from -1/2 to 1
 abbrev pub Small : Float → Type 0
@@ -87,7 +87,7 @@ at-one n d h = omega arith
 at-half : (n d : ℕ) → n * 2 ≤ 1 * d → 2 * n ≤ d
 at-half n d h = omega arith
 
-below-one : (x : Float) → T (positiveOrZero x) → T (le x (fin false 1 (pos 0))) → Small x
+below-one : (x : Float) → T (signClear x) → T (le x (fin false 1 (pos 0))) → Small x
 unfolding le
 below-one nan p h = absurd p
 below-one (inf true) p h = absurd p
@@ -95,7 +95,7 @@ below-one (inf false) p h = absurd h
 below-one (fin true m e) p h = absurd p
 below-one (fin false m e) p h = at-one (m * up e) (down e) (or-le (m * up e * 1) (1 * down e) h)
 
-below-half : (x : Float) → T (positiveOrZero x) → T (le x (fin false 1 (negsuc 0))) → Small (neg x)
+below-half : (x : Float) → T (signClear x) → T (le x (fin false 1 (negsuc 0))) → Small (neg x)
 unfolding le neg
 below-half nan p h = absurd p
 below-half (inf true) p h = absurd p
@@ -119,13 +119,13 @@ half-side a c h = omega arith
 
 small-up : (a c : ℕ) → 0 < c → a ≤ c → Small (round binary64 false a c)
 small-up a c C h =
-    below-one (round binary64 false a c) (round-positiveOrZero a c)
+    below-one (round binary64 false a c) (round-signClear a c)
     (subst (λ (z : Float). T (le (round binary64 false a c) z)) round-one (round-mono binary64 a c 1 1 C (pow-pos 0) (one-side a c h)))
 
 small-down : (a c : ℕ) → 0 < c → 2 * a ≤ c → Small (round binary64 true a c)
 small-down a c C h =
     subst Small (sym (neg-round a c))
-    (below-half (round binary64 false a c) (round-positiveOrZero a c)
+    (below-half (round binary64 false a c) (round-signClear a c)
     (subst (λ (z : Float). T (le (round binary64 false a c) z)) round-half (round-mono binary64 a c 1 2 C (pow-pos 1) (half-side a c h))))
 
 -- x / de is small, and n / dd is 1 or more
@@ -223,8 +223,8 @@ div-nonNegative (fin s m e) (inf t) h w = absurd w
 div-nonNegative (fin s m e) (fin true n d) h w = absurd w
 div-nonNegative (fin false m e) (fin false n d) h w =
     subst (λ (z : Float). T (nonNegative z)) (sym (cond-no (eqb n 0) _ _ (not-zero n (w .0))))
-    (positiveOrZero-nonNegative (round binary64 false (m * up e * down d) (n * up d * down e))
-    (round-positiveOrZero (m * up e * down d) (n * up d * down e)))
+    (signClear-nonNegative (round binary64 false (m * up e * down d) (n * up d * down e))
+    (round-signClear (m * up e * down d) (n * up d * down e)))
 div-nonNegative (fin true m e) (fin false n d) h w =
     subst (λ (z : Float). T (nonNegative z)) (sym (cond-no (eqb n 0) _ _ (not-zero n (w .0))))
     (round-zero (m * up e * down d) (n * up d * down e) (mul-pos (mul-pos (w .0) (up-pos d)) (down-pos e))

@@ -13,18 +13,18 @@ use Rattle.pricer.specs.Range.{zeroFloat, lowestYield, highestYield, yie
 use Rattle.pricer.specs.declared.Terms.{Terms}
 use Rattle.pricer.specs.declared.Terms.the-variants.{Zero, Fixed}
 use Rattle.pricer.specs.declared.Bond.{Bond}
-use Rattle.pricer.proofs.Signs.{positiveOrZero, nonNegative, positiveOrZero-no-nan, div-positiveOrZero, add-positiveOrZero}
+use Rattle.pricer.proofs.Signs.{signClear, nonNegative, signClear-no-nan, div-signClear, add-signClear}
 use Rattle.pricer.proofs.Divisor.{Small, nonNegative-of, small-from-zero, div-nonNegative, divisor-any, atLeastOne-two}
 
-zero-positiveOrZero : (d : Float) → T (positive d) → (n : ℕ) → T (positiveOrZero (zeroAfter d n))
+zero-signClear : (d : Float) → T (positive d) → (n : ℕ) → T (signClear (zeroAfter d n))
 unfolding zeroAfter
-zero-positiveOrZero d h zero = tt
-zero-positiveOrZero d h (suc n) = div-positiveOrZero _ d (zero-positiveOrZero d h n) h
+zero-signClear d h zero = tt
+zero-signClear d h (suc n) = div-signClear _ d (zero-signClear d h n) h
 
-fixed-positiveOrZero : (c d : Float) → T (nonNegative c) → T (positive d) → (n : ℕ) → T (positiveOrZero (fixedAfter c d n))
+fixed-signClear : (c d : Float) → T (nonNegative c) → T (positive d) → (n : ℕ) → T (signClear (fixedAfter c d n))
 unfolding fixedAfter
-fixed-positiveOrZero c d k h zero = tt
-fixed-positiveOrZero c d k h (suc n) = div-positiveOrZero _ d (add-positiveOrZero _ c (fixed-positiveOrZero c d k h n) k) h
+fixed-signClear c d k h zero = tt
+fixed-signClear c d k h (suc n) = div-signClear _ d (add-signClear _ c (fixed-signClear c d k h n) k) h
 
 -- the one place that knows the ends of the range of yields
 yield-small : (y : Float) → T (yieldInRange y) → Small y
@@ -35,11 +35,11 @@ divisor-positive : (y : Float) → T (yieldInRange y) → T (positive (divisor y
 divisor-positive y h = divisor-any y two (yield-small y h) atLeastOne-two
 
 terms-no-nan : (n : ℕ) (t : Terms) → T (termsInRange t) → T (not (isNan (priceBy n t)))
-terms-no-nan n (Zero y) h = positiveOrZero-no-nan (zeroAfter (divisor y) n) (zero-positiveOrZero (divisor y) (divisor-positive y h) n)
+terms-no-nan n (Zero y) h = signClear-no-nan (zeroAfter (divisor y) n) (zero-signClear (divisor y) (divisor-positive y h) n)
 terms-no-nan n (Fixed c y) h =
     let k : T (le zeroFloat c && le c hundred) = and-l (le zeroFloat c && le c hundred) (yieldInRange y) h in
-    positiveOrZero-no-nan (fixedAfter (perPeriod c) (divisor y) n)
-    (fixed-positiveOrZero (perPeriod c) (divisor y)
+    signClear-no-nan (fixedAfter (perPeriod c) (divisor y) n)
+    (fixed-signClear (perPeriod c) (divisor y)
     (div-nonNegative c two (nonNegative-of c (and-l (le zeroFloat c) (le c hundred) k)) atLeastOne-two)
     (divisor-positive y (and-r (le zeroFloat c && le c hundred) (yieldInRange y) h)) n)
 

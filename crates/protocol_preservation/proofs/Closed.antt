@@ -1,4 +1,4 @@
--- What every update of a table keeps, every handler and every accepted event keeps: the one walk through their definitions.
+-- What every update of a table keeps, every handler and every accepted event keeps: their definitions gone through once.
 -- Assumes nothing.
 use Prim.Native.Nat.{ℕ, _+_}
 use mathlib.Core.Path.{_≡_, refl}

@@ -1,4 +1,4 @@
--- One element at a time: what makes its test of check 9 pass, in plain numbers; proofs/Facts.antt has the contrary.
+-- One element at a time: what makes its test of check 9 pass, in plain numbers; proofs/Facts.antt has the converse, what a test that passes says.
 -- M is the machine count, E the entry count, B the largest replica number allowed.
 -- Assumes nothing.
 use Prim.Native.Nat.{ℕ, _≤_, _<_}
@@ -39,14 +39,14 @@ module _ (M E B j : ℕ) (v : Job) where
       (λ e. or-right (eqb (v .moving) 0 && eqb (v .thief) 0) _ (and-both (eqb (v .moving) 1) (ltb (v .thief) M) (eq-eqb (v .moving) 1 (omega arith))
       (lt-ltb _ _ (f e)))))
 
-  admitted : v .state ≢ NOT-ADMITTED → v .state ≤ 2 → (v .state ≢ PRICED → v .price ≡ 0) → admittedOk v ≡ true
+  admitted : v .state ≢ NOT-ADMITTED → v .state ≤ PRICED → (v .state ≢ PRICED → v .price ≡ 0) → admittedOk v ≡ true
   admitted n l f =
       byEq (v .state) PRICED
       (λ e. or-right (eqb (v .state) OPEN && eqb (v .price) 0) (eqb (v .state) PRICED) (eq-eqb _ _ e))
       (λ e. or-left (eqb (v .state) OPEN && eqb (v .price) 0) (eqb (v .state) PRICED)
       (and-both (eqb (v .state) OPEN) (eqb (v .price) 0) (eq-eqb (v .state) OPEN (omega arith)) (eq-eqb _ _ (f e))))
 
-  pub job-passes : v .state ≤ 2 → v .moving ≤ 1 → (v .state ≢ NOT-ADMITTED → v .holder < M) → (v .moving ≢ 0 → v .thief < M)
+  pub job-passes : v .state ≤ PRICED → v .moving ≤ 1 → (v .state ≢ NOT-ADMITTED → v .holder < M) → (v .moving ≢ 0 → v .thief < M)
       → (v .state ≢ NOT-ADMITTED → 1 ≤ v .replica)
       → (E ≤ j → v .state ≡ NOT-ADMITTED) → (v .state ≡ NOT-ADMITTED → v ≡ noJob) → (v .state ≢ PRICED → v .price ≡ 0)
       → (v .moving ≡ 0 → v .thief ≡ 0) → v .replica ≤ B → jobOk M E B j v ≡ true

@@ -297,7 +297,7 @@ lowest-in t m h e =
 
 -- v is job j
 pub record JobFacts (t : Table) (j : ℕ) (v : Job) : Type 0 where
-  pub state : v .state ≤ 2
+  pub state : v .state ≤ PRICED
   pub replica : v .replica ≤ maxReplica t
   pub moving : v .moving ≤ 1
   pub holder : v .holder < 16

@@ -1,4 +1,4 @@
--- The tests of check 9 grow with the machine count M and with the bound B of the replica numbers: what passes by smaller ones passes by larger ones.
+-- The tests of check 9 grow with the machine count M and the largest replica number B: what passes by smaller ones passes by larger ones.
 -- Assumes nothing.
 use Prim.Native.Nat.{ℕ, _≤_, _<_}
 use mathlib.Core.Path.{_≡_}

@@ -1,4 +1,4 @@
--- Check 9 through Notice: what every machine does, then the root's jobs, whose replica numbers were at most the bound before it rose by one.
+-- Check 9 through Notice: what every machine does, then the root's jobs, whose replica numbers were at most `maxReplica` before it rose.
 -- Assumes nothing.
 use Prim.Native.Nat.{ℕ, suc, _+_, _<_}
 use mathlib.Core.Path.{_≡_, refl, sym, ap, _∙_, subst}

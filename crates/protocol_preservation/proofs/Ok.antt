@@ -30,6 +30,7 @@ use Rattle.protocol_preservation.proofs.Empty.{empty-message}
 abbrev pub inFlightOk : Table → Message → Bool
 inFlightOk t x = eqb (machineAt t (x .to) .alive) 1 && messageOk (t .«machine_count») (t .«entry_count») (maxReplica t) x
 
+-- check 9 by its tests of one element, which are kept update by update
 pub record Ok (t : Table) : Type 0 where
   pub sizes : sizesOk t ≡ true
   pub bond : (j : ℕ) → j < 64 → bondOk (t .«entry_count») j (bondAt t j) ≡ true
@@ -41,7 +42,7 @@ pub record Ok (t : Table) : Type 0 where
   pub root : rootOk t ≡ true
   pub told : (m d : ℕ) → m < 16 → d < 16 → toldOk (t .«machine_count») (machineAt t d .alive) m d (toldAt t m d) ≡ true
 
--- the arrays have their lengths, and the table passes
+-- the arrays have their lengths, and the table passes. A count over a whole array, kept event by event, would stand here and not in Ok
 pub record Valid (t : Table) : Type 0 where
   pub sized : Sized t
   pub ok : Ok t

@@ -50,7 +50,7 @@ copy-one E B j r h c =
 -- its state and price
 record State (v : Job) : Type 0 where
   some : v .state ≢ NOT-ADMITTED
-  most : v .state ≤ 2
+  most : v .state ≤ PRICED
   unpriced : v .state ≢ PRICED → v .price ≡ 0
 
 state : (v : Job) → admittedOk v ≡ true → State v

@@ -1,4 +1,4 @@
--- Check 9 where a machine is told of a death: the bound of the replica numbers may rise, and every test of a part still passes.
+-- Check 9 where a machine is told of a death: the largest replica number allowed may rise, and every test of a part still passes.
 -- Assumes nothing.
 use Prim.Native.Nat.{ℕ, suc, _≤_, _<_}
 use mathlib.Core.Path.{_≡_, sym, ap, _∙_}
@@ -18,7 +18,7 @@ use Rattle.validity.specs.Validity.{maxReplica}
 use Rattle.protocol_preservation.proofs.Ok.{Ok, inFlightOk}
 use Rattle.protocol_preservation.proofs.Larger.{job-up, machine-up, cell-up, message-up}
 
--- ---- the bound
+-- ---- the largest replica number allowed
 
 module _ (t : Table) (s : Sized t) (a b : ℕ) (a16 : a < 16) (b16 : b < 16) where
   row : (d : ℕ) → d < 16 → eqb (toldAt t 0 d) 1 ≡ true → eqb (toldAt (withTold t a b 1) 0 d) 1 ≡ true

@@ -16,7 +16,7 @@ use Rattle.snapshot_write.specs.Bytes.{encode}
 unfoldable pub checkOf : List ℕ → ℕ
 checkOf s = cond (decodable s) (cond (tableOk (decode s)) 0 9) 9
 
--- one event on a snapshot
+-- the number of one event on a snapshot; bytes that are no table get 9
 unfoldable pub stepNumber : List ℕ → List ℕ → ℕ
 stepNumber s e = cond (decodable s) (stepOf (decode s) e .number) 9
 

@@ -1,4 +1,4 @@
-// A table that is kept as bytes between runs: opened from a book, checked, and stepped by one event, each with document 01's number.
+// A snapshot, a table that is kept as bytes between calls: opened from a book, checked, and stepped by one event, each with document 01's number.
 ghost use mathlib.Core.Path.{_≡_};
 ghost use Rattle.snapshot.specs.Snapshot.{checkOf, stepNumber, stepBytes, openNumber, openBytes};
 

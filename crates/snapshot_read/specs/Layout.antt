@@ -1,4 +1,4 @@
--- A snapshot: the bytes in which a table is kept between runs, in the order of document 01, "The table", and the table that they stand for.
+-- A snapshot: the bytes in which a table is kept between calls, in the order of document 01, "The table", and the table that they stand for.
 -- Definitions only. Numbers of more than one byte are little-endian, as in the book. docs/LAYOUT.md has the sizes and places as numbers.
 use Prim.Native.Nat.{ℕ, _+_, _*_}
 use mathlib.Core.Bool.{Bool, false, cond, _&&_, _||_}
@@ -22,9 +22,11 @@ use Rattle.table.specs.declared.Table.{Table}
 abbrev pub couponAt : ℕ
 couponAt = 2
 
+-- after the coupon's 8 bytes
 abbrev pub yieldAt : ℕ
 yieldAt = couponAt + 8
 
+-- with its last 8 bytes
 abbrev pub bondSize : ℕ
 bondSize = yieldAt + 8
 
@@ -32,9 +34,11 @@ bondSize = yieldAt + 8
 abbrev pub jobPriceAt : ℕ
 jobPriceAt = 5
 
+-- with its last 8 bytes
 abbrev pub jobSize : ℕ
 jobSize = jobPriceAt + 8
 
+-- alive, reserved job, replica and thief, running job and replica, waits: a byte each
 abbrev pub machineSize : ℕ
 machineSize = 7
 
@@ -42,6 +46,7 @@ machineSize = 7
 abbrev pub messagePriceAt : ℕ
 messagePriceAt = 6
 
+-- with its last 8 bytes
 abbrev pub messageSize : ℕ
 messageSize = messagePriceAt + 8
 

@@ -37,8 +37,8 @@ module _ (s : List ℕ) (t : Table) (h : Represents s t) (e : List ℕ) where
   unfolding stepBytes
   refused-bytes z = rw (same-number, z)
 
-  stands-step : Encodable t → Represents (stepBytes s e) (stepOf t e .table)
-  stands-step k =
+  represents-step : Encodable t → Represents (stepBytes s e) (stepOf t e .table)
+  represents-step k =
       byBool (eqb (stepOf t e .number) 0)
       (λ z. rw (accepted-bytes (eqb-true (stepOf t e .number) 0 z)) (decode-encode (stepOf t e .table) (encodable-step t e k)))
       (λ z. rw (refused-bytes z, step-refused t e (eqb-false (stepOf t e .number) 0 z)) h)
@@ -48,7 +48,7 @@ module _ (s : List ℕ) (t : Table) (h : Represents s t) (e : List ℕ) where
 after-run : (es : List (List ℕ)) (s : List ℕ) (t : Table) → Represents s t → Encodable t → Represents (snapshotAfter s es) (runOf t es)
 unfolding snapshotAfter runOf
 after-run [] s t h k = h
-after-run (e ∷ es) s t h k = after-run es (stepBytes s e) (stepOf t e .table) (stands-step s t h e k) (encodable-step t e k)
+after-run (e ∷ es) s t h k = after-run es (stepBytes s e) (stepOf t e .table) (represents-step s t h e k) (encodable-step t e k)
 
 same-run : (s : List ℕ) (t : Table) → Represents s t → Encodable t → SameRun s t
 same-run s t h k = record {

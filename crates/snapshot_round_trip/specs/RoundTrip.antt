@@ -1,5 +1,5 @@
--- What is claimed of tables that are kept as bytes. Definitions only; the theorems are `decode-encode` in proofs/Decode.antt, `encode-decode` in
--- proofs/Encode.antt and `snapshot-run` in proofs/Run.antt.
+-- What is claimed of snapshots. Definitions only; the theorems are `decode-encode` in proofs/Decode.antt, `encode-decode` and `only-bytes` in
+-- proofs/Encode.antt, and `snapshot-run` in proofs/Run.antt.
 use Prim.Native.Nat.{ℕ, _<_}
 use mathlib.Core.Path.{_≡_}
 use mathlib.Core.Bool.{true}

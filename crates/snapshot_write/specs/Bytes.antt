@@ -38,6 +38,7 @@ abbrev pub couponBits : Terms → ℕ
 couponBits (Zero y) = 0
 couponBits (Fixed c y) = toBits binary64 c
 
+-- the bits of the yield, which both cases carry
 abbrev pub yieldBits : Terms → ℕ
 yieldBits (Zero y) = toBits binary64 y
 yieldBits (Fixed c y) = toBits binary64 y
@@ -78,6 +79,7 @@ messagesBytes l = joined (λ i. messageBytes (getD l i noMessage)) 128
 unfoldable pub entriesBytes : Table → List ℕ
 entriesBytes t = (t .«machine_count» ∷ t .«entry_count» ∷ []) ++ bondsBytes (t .bonds) ++ jobsBytes (t .jobs)
 
+-- how many bytes these are: up to where the machines start
 abbrev pub entriesSize : ℕ
 entriesSize = machinesStart
 
@@ -85,6 +87,7 @@ entriesSize = machinesStart
 unfoldable pub machineStateBytes : Table → List ℕ
 machineStateBytes t = machinesBytes (t .machines) ++ t .told ++ t .pools
 
+-- how many bytes these are
 abbrev pub machineStateSize : ℕ
 machineStateSize = 16 * machineSize + 256 + 1024
 
@@ -92,6 +95,7 @@ machineStateSize = 16 * machineSize + 256 + 1024
 unfoldable pub flightBytes : Table → List ℕ
 flightBytes t = (t .«in_flight» ∷ []) ++ messagesBytes (t .messages)
 
+-- how many bytes these are
 abbrev pub flightSize : ℕ
 flightSize = 1 + 128 * messageSize
 

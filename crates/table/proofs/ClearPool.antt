@@ -1,4 +1,4 @@
--- What an emptied pool leaves as it was.
+-- What clearing a pool leaves as it was.
 -- Assumes nothing.
 use Prim.Native.Nat.{ℕ, _<_}
 use mathlib.Core.Path.{_≡_, refl, _∙_}
@@ -14,7 +14,7 @@ use Rattle.table.proofs.Views.{Sized, sized-pool, pool-same, pool-other
 use Rattle.table.proofs.Views.{flight-pool, machine-count-pool, entry-count-pool, used-pool}
 
 module _ (t : Table) (m : ℕ) where
-  -- what emptying one cell keeps, and a view that no pool changes
+  -- what clearing one cell keeps, and a view that no pool changes
   pub keeps-clearPool : (P : Table → Type 0) → ((u : Table) (j : ℕ) → P u → P (withPool u m j 0)) → P t → P (clearPool t m)
   unfolding clearPool
   keeps-clearPool P h p = up-keeps (λ j u. withPool u m j 0) P (λ j u. h u j) 64 t p

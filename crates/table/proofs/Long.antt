@@ -26,16 +26,16 @@ pub record Long (t : Table) : Type 0 where
 counted : (F : Field) (l : List (F .Value)) (n : ℕ) → length (map (F .into) l) ≡ n → length l ≡ n
 counted F l n e = sym (length-map l (F .into)) ∙ e
 
+-- owning a table owns its fields, in the order of their declaration
 pub long : (t : Table) (vs : List Val) → Is the-row t vs → Long t
-long t vs g =
-    let f = g .1 .1 .1 .1 in
+long t vs (_, (_, (machine-count, (entry-count, (bonds, (jobs, (machines, (told, (pools, (in-flight, (messages, _))))))))))) =
     record {
-      bonds = counted Bond.the-field (t .bonds) 64 (f .0 .1 .0 .1);
-      jobs = counted Job.the-field (t .jobs) 64 (f .1 .0 .1 .0 .1);
-      machines = counted Machine.the-field (t .machines) 16 (f .1 .1 .0 .1 .0 .1);
-      told = counted u8-field (t .told) 256 (f .1 .1 .1 .0 .1 .0 .1);
-      pools = counted u8-field (t .pools) 1024 (f .1 .1 .1 .1 .0 .1 .0 .1);
-      messages = counted Message.the-field (t .messages) 128 (f .1 .1 .1 .1 .1 .1 .0 .1 .0 .1);
+      bonds = counted Bond.the-field (t .bonds) 64 (bonds .1 .0 .1);
+      jobs = counted Job.the-field (t .jobs) 64 (jobs .1 .0 .1);
+      machines = counted Machine.the-field (t .machines) 16 (machines .1 .0 .1);
+      told = counted u8-field (t .told) 256 (told .1 .0 .1);
+      pools = counted u8-field (t .pools) 1024 (pools .1 .0 .1);
+      messages = counted Message.the-field (t .messages) 128 (messages .1 .0 .1);
     }
 
 pub sized : (t : Table) → Long t → t .«in_flight» ≤ 128 → Sized t

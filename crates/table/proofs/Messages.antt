@@ -50,11 +50,11 @@ module _ (t : Table) (s : Sized t) where
 
   pub flight-removeAt : (k : ℕ) → k < t .«in_flight» → flight (removeAt t k) ≡ without k (flight t)
   flight-removeAt k h =
-      unpull ∙ rw (split k h, append-assoc) (take-at (without k (flight t)) (drop (t .«in_flight») (t .messages) ++ (noMessage ∷ []))
+      left ∙ rw (split k h, append-assoc) (take-at (without k (flight t)) (drop (t .«in_flight») (t .messages) ++ (noMessage ∷ []))
       (t .«in_flight» - 1) (length-rest k h))
     where
-      unpull : flight (removeAt t k) ≡ take (t .«in_flight» - 1) (without k (t .messages) ++ (noMessage ∷ []))
-      unpull = unfold flight removeAt withMessages in refl
+      left : flight (removeAt t k) ≡ take (t .«in_flight» - 1) (without k (t .messages) ++ (noMessage ∷ []))
+      left = unfold flight removeAt withMessages in refl
 
   pub sized-push : (m : Message) → t .«in_flight» < 128 → Sized (push t m)
   unfolding push
@@ -104,17 +104,17 @@ module _ (t : Table) (s : Sized t) where
       replicate-append-replicate (128 - n) 1 noMessage in
       let r : without k (t .messages) ++ (noMessage ∷ []) ≡ without k (flight t) ++ replicate (128 - n + 1) noMessage =
       rw (split k h, append-assoc, d, f) in
-      pulled
+      removed
       ∙ r
       ∙ ap (λ (i : ℕ). without k (flight t) ++ replicate i noMessage) (sym c)
       ∙ ap (padTo 128 noMessage) (sym (flight-removeAt k h))
     where
-      pulled : removeAt t k .messages ≡ without k (t .messages) ++ (noMessage ∷ [])
-      pulled = unfold removeAt withMessages in refl
+      removed : removeAt t k .messages ≡ without k (t .messages) ++ (noMessage ∷ [])
+      removed = unfold removeAt withMessages in refl
 
   pub padded-keepMessages : (p : Message → Bool) → Padded (keepMessages t p)
   unfolding Padded
-  padded-keepMessages p = sifted ∙ ap (padTo 128 noMessage) (sym (flight-keepMessages t p))
+  padded-keepMessages p = filtered ∙ ap (padTo 128 noMessage) (sym (flight-keepMessages t p))
     where
-      sifted : keepMessages t p .messages ≡ padTo 128 noMessage (filter p (flight t))
-      sifted = unfold keepMessages withMessages in refl
+      filtered : keepMessages t p .messages ≡ padTo 128 noMessage (filter p (flight t))
+      filtered = unfold keepMessages withMessages in refl

@@ -1,7 +1,7 @@
 -- The table as it is read and changed: views of its parts, and one update for each part. Both are opaque: a proof of code unfolds them by the one
 -- name `parts`, any other proof goes by their laws (proofs/Views.antt). Only the updates name every field of a table.
 --
--- What document 01 lists under "The table", and the field that holds it (j < 64 a job, m < 16 a machine, i < 128 a slot):
+-- What document 01 lists under "The table", with the counts of "The book", and the field that holds it (j < 64 a job, m < 16 a machine, i < 128 a slot):
 --
 --   "Bytes 0 and 1: machine count, 2 to 16"                          machine_count
 --   "entry count n, 0 to 64"                                         entry_count
@@ -12,12 +12,12 @@
 --                                                                    jobs[j].holder     p, or v
 --                                                                    jobs[j].thief      t; 0 where it is not moving
 --   "its price bits"                                                 jobs[j].price
---   "alive or dead"                                                  machines[m].alive     1, 0
+--   "alive or dead"                                                  machines[m].alive  1, 0
 --   "which dead machines it has been told of"                        told[16 m + d]     1 where m was told of d
 --   "a pool (per job a replica number, 0 for none)"                  pools[64 m + j]
 --   "at most one reserved copy (job, replica, thief)"                machines[m].reserved_job, .reserved_replica, .reserved_thief; replica 0 for none
 --   "at most one running copy"                                       machines[m].running_job, .running_replica; replica 0 for none
---   "the victim it waits on, if any"                                 machines[m].waits     the victim + 1, 0 for none
+--   "the victim it waits on, if any"                                 machines[m].waits  the victim + 1, 0 for none
 --   "up to 128 messages in flight, in order of sending"              messages[i] for i < in_flight
 --   the message kinds                                                messages[i].kind   1 FISH, 2 REQ, 3 AUTH, 4 DENIED, 5 OBSOLETE, 6 SCHEDULE,
 --                                                                    7 ACK, 8 NOWORK, 9 RESULT

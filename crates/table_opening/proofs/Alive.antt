@@ -1,4 +1,4 @@
--- Bringing the first machines of a table to life, one after another, in a table without machines: they are those of a fresh table.
+-- The first machines of a table are set alive, one after another, in a table without machines: they are those of a fresh table.
 -- Assumes nothing.
 use Prim.Native.Nat.{ℕ, zero, suc, _≤_}
 use mathlib.Core.Path.{_≡_, refl, ap, _∙_}

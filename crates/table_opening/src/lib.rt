@@ -88,7 +88,7 @@ fn no_table() -> Table
     blank(0, 0, no_bonds(), [machine(0); 16])
 }
 
-// The first m machines come alive. They are written into the table itself, by an index that runs: arrays that are only written at fixed places are
+// The first m machines are set alive. They are written into the table itself, by an index that runs: arrays that are only written at fixed places are
 // taken apart by the optimiser, and then copied number by number in every event.
 fn with_machines(t: Table, m: u8) -> Table
     requires { ⌜ m ≤ 16 ⌝ }

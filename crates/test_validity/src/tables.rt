@@ -92,12 +92,12 @@ fn messages() -> [Message; 128] {
     };
     let mut all = [none; 128];
     let mut m = none;
-    m.kind = 1;
+    m.kind = table::FISH;
     m.from = 2;
     m.to = 1;
     all[0] = m;
     all[1] = Message {
-        kind: 3,
+        kind: table::AUTH,
         from: 0,
         to: 1,
         job: 0,
@@ -106,7 +106,7 @@ fn messages() -> [Message; 128] {
         price: 0,
     };
     all[2] = Message {
-        kind: 9,
+        kind: table::RESULT,
         from: 2,
         to: 0,
         job: 1,

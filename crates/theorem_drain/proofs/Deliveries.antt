@@ -25,7 +25,7 @@ use Rattle.dispatcher.specs.Codes.{DELIVER}
 use Rattle.dispatcher.specs.Step.{event, stepOf}
 use Rattle.theorem_drain.proofs.Reach.{Reach, reach-here, reach-step}
 use Rattle.theorem_drain.proofs.Steps.{accepts-deliver}
-use Rattle.theorem_drain.proofs.Preserved.{accepted-invariant}
+use Rattle.theorem_drain.proofs.AcceptedInvariant.{accepted-invariant}
 use Rattle.theorem_drain.proofs.Weights.{weight, weightOf, weight-range, weight-most, lighter}
 
 -- the root was told of every dead machine

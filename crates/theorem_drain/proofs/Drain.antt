@@ -14,14 +14,14 @@ use Rattle.theorem_drain.proofs.Deliveries.{Drained, deliveries-640}
 use Rattle.theorem_drain.proofs.Jobs.{NoneRunning, none-running, NoneOpen, noneOpen-all}
 
 -- the invariant holds, and no job is open
-pub record Closed (t : Table) : Type 0 where
+pub record NoJobOpen (t : Table) : Type 0 where
   pub invariant : Invariant t
   pub none-open : (j : ℕ) → j < 64 → jobAt t j .state ≢ OPEN
 
 -- 15 + 640 + 32 + 192
-pub drain : (t : Table) → Invariant t → Reach Closed t 879
+pub drain : (t : Table) → Invariant t → Reach NoJobOpen t 879
 drain t w =
-    reach-map Closed (NoneOpen 64) t 879 (λ u s. record { invariant = s .none-running .drained .invariant; none-open = s .none-open })
+    reach-map NoJobOpen (NoneOpen 64) t 879 (λ u s. record { invariant = s .none-running .drained .invariant; none-open = s .none-open })
     (reach-then (NoneOpen 64) (Told 15) t 15 864 (notices t w)
     (λ u a. reach-then (NoneOpen 64) Drained u 640 224
     (deliveries-640 u (a .invariant) (λ d l. a .told d (omega (arith, a .invariant .facts .machine-count-most)) l))

@@ -20,7 +20,7 @@ use Rattle.dispatcher.specs.Codes.{START}
 use Rattle.dispatcher.specs.Step.{event, stepOf}
 use Rattle.theorem_drain.proofs.Reach.{Reach, reach-here, reach-step, reach-map, reach-loop}
 use Rattle.theorem_drain.proofs.Steps.{accepts-start}
-use Rattle.theorem_drain.proofs.Preserved.{accepted-invariant}
+use Rattle.theorem_drain.proofs.AcceptedInvariant.{accepted-invariant}
 use Rattle.theorem_drain.proofs.Deliveries.{Drained, informed-same}
 use Rattle.theorem_drain.proofs.Results.{Finished, finishes}
 use Rattle.theorem_drain.proofs.Pooled.{Pooled, open-pooled}

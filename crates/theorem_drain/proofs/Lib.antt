@@ -1,5 +1,5 @@
 pub mod Reach
-pub mod Preserved
+pub mod AcceptedInvariant
 pub mod Steps
 pub mod Weights
 pub mod Notices

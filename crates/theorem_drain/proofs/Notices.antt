@@ -20,7 +20,7 @@ use Rattle.dispatcher.specs.Codes.{NOTICE}
 use Rattle.dispatcher.specs.Step.{event, stepOf}
 use Rattle.theorem_drain.proofs.Reach.{Reach, reach-here, reach-step, reach-loop}
 use Rattle.theorem_drain.proofs.Steps.{accepts-notice}
-use Rattle.theorem_drain.proofs.Preserved.{accepted-invariant}
+use Rattle.theorem_drain.proofs.AcceptedInvariant.{accepted-invariant}
 
 -- ---- the table after a notice to the root
 

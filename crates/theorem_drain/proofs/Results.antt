@@ -33,7 +33,7 @@ use Rattle.dispatcher.specs.Codes.{DELIVER, DONE}
 use Rattle.dispatcher.specs.Step.{event, stepOf}
 use Rattle.theorem_drain.proofs.Reach.{Reach, reach-here, reach-step}
 use Rattle.theorem_drain.proofs.Steps.{accepts-deliver, accepts-done}
-use Rattle.theorem_drain.proofs.Preserved.{accepted-invariant}
+use Rattle.theorem_drain.proofs.AcceptedInvariant.{accepted-invariant}
 use Rattle.theorem_drain.proofs.Deliveries.{Drained, informed-same, flight-empty}
 
 -- u is the table once machine a's running copy of t is priced

@@ -2,7 +2,7 @@
 -- Assumes nothing.
 use mathlib.Core.Path.{_≡_, refl}
 use mathlib.Core.Logic.{_≢_}
-use mathlib.Core.Bool.{Bool, cond}
+use mathlib.Core.Bool.{Bool}
 use mathlib.Core.List.{List, [], _∷_, _++_}
 use Prim.Native.Nat.{ℕ, _<_}
 use native.Mathlib.Omega.{arith}
@@ -10,7 +10,7 @@ use lib.Dec.{eqb}
 use borrow.Author.Tests.{eqb-true, eqb-false}
 use lib.ListN.{length}
 use Rattle.lists.specs.Scan.{without}
-use Rattle.lists.proofs.Cases.{byBool}
+use Rattle.lists.proofs.Cases.{byBool, cond-elim}
 use Rattle.lists.proofs.Count.{count, count-delete, Every, every-delete, every-at}
 use Rattle.table.specs.declared.Message.{Message}
 use Rattle.table.specs.declared.Table.{Table}
@@ -20,14 +20,10 @@ use Rattle.table.proofs.Views.{Sized, length-flight}
 use Rattle.table.proofs.Messages.{flight-push, flight-removeAt, message-flight}
 
 -- a view of either of two tables
-pub view-either : {A : Type 0} (f : Table → A) (b : Bool) (u v : Table) (a : A) → f u ≡ a → f v ≡ a → f (cond b u v) ≡ a
-view-either f b u v a d e = byBool b (λ c. rw c d) (λ c. rw c e)
-
--- a view that does not read the messages, after one is sent
 pub view-send : {A : Type 0} (f : Table → A) (t : Table) (x : Message) → ((n : ℕ) (l : List Message) → f (withMessages t n l) ≡ f t)
     → f (send t x) ≡ f t
 unfolding send push
-view-send f t x h = view-either f (eqb (machineAt t (x .to) .alive) 1) _ t (f t) (h _ _) refl
+view-send f t x h = cond-elim (λ u. f u ≡ f t) (eqb (machineAt t (x .to) .alive) 1) _ t (h _ _) refl
 
 -- P does not read the slots of the table
 abbrev pub Apart : (Table → List Message → Type 0) → Type 0
@@ -37,11 +33,11 @@ pub pushed : (P : Table → List Message → Type 0) → Apart P → (t : Table)
 unfolding push
 pushed P a t x l i = a t _ _ l i
 
-pub pulled : (P : Table → List Message → Type 0) → Apart P → (t : Table) (k : ℕ) (l : List Message) → P t l → P (removeAt t k) l
+pub removed : (P : Table → List Message → Type 0) → Apart P → (t : Table) (k : ℕ) (l : List Message) → P t l → P (removeAt t k) l
 unfolding removeAt
-pulled P a t k l i = a t _ _ l i
+removed P a t k l i = a t _ _ l i
 
--- the received message is stored at the end, or nowhere where its receiver is dead
+-- the message that is sent is stored at the end, or nowhere where its receiver is dead
 pub sends : (P : Table → List Message → Type 0) → Apart P → (t : Table) (x : Message) → Sized t → RoomFor t (x .to)
     → (P t (x ∷ flight t) → P t (flight t ++ x ∷ []))
     → (machineAt t (x .to) .alive ≢ 1 → P t (x ∷ flight t) → P t (flight t))
@@ -59,7 +55,7 @@ module _ (t : Table) (k : ℕ) (s : Sized t) (h : k < t .«in_flight») where
 
   pub takes : (P : Table → List Message → Type 0) → Apart P → P t (messageAt t k ∷ without k (flight t))
       → P (removeAt t k) (messageAt t k ∷ flight (removeAt t k))
-  takes P a i = rw (flight-removeAt t s k h) (pulled P a t k (messageAt t k ∷ without k (flight t)) i)
+  takes P a i = rw (flight-removeAt t s k h) (removed P a t k (messageAt t k ∷ without k (flight t)) i)
 
   pub count-taken : (p : Message → Bool) → count p (messageAt t k ∷ without k (flight t)) ≡ count p (flight t)
   count-taken p = rw (← message-flight t s k h) (count-delete p (flight t) k noMessage slot)

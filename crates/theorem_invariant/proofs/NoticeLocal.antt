@@ -1,4 +1,4 @@
--- What Notice does to every machine that is told (its death flag, its messages, its reserved copy, its wait), through the table's views.
+-- What Notice does to every machine that is told (its told flag, its messages, its reserved copy, its wait), through the table's views.
 -- Assumes nothing.
 use mathlib.Core.Path.{_≡_, ap, _∙_}
 use mathlib.Core.Logic.{_≢_}

@@ -40,7 +40,7 @@ reservation-apart t n k l c = simp views c
 reservation-last : (t : Table) (x : Message) (l : List Message) → ReservationMatched t (x ∷ l) → ReservationMatched t (l ++ x ∷ [])
 reservation-last t x l c m th j q ml tl alive told = omega (arith, count-append (about m th j q) l (x ∷ []), c m th j q ml tl alive told)
 
--- the received message is sent: it counts for a living receiver alone
+-- a message x, counted already, is sent: it counts for a living receiver alone
 pub reservation-sends : (t : Table) (x : Message) → Sized t → RoomFor t (x .to) → machineAt t 0 .alive ≡ 1 → (x .kind ≡ REQ → x .to ≡ 0)
     → ReservationMatched t (x ∷ flight t) → ReservationMatched (send t x) (flight (send t x))
 reservation-sends t x s l root asks =

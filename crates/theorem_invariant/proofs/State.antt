@@ -93,11 +93,12 @@ pub record Known (t : Table) (x : Message) : Type 0 where
   pub cap : x .replica ≤ jobAt t (x .job) .replica
   -- O: an OBSOLETE is not of an open job's current copy
   pub old : x .kind ≡ OBSOLETE → jobAt t (x .job) .state ≡ OPEN → x .replica < jobAt t (x .job) .replica
-  -- routes
+  -- the ends of the job's place, of a message of its current copy
   pub ends : jobAt t (x .job) .state ≡ OPEN → x .replica ≡ jobAt t (x .job) .replica → Ends t x
 
+-- R, O, N, S and H: the replica numbers, and where the current copy of an open job is
 pub record Transfer (t : Table) (l : List Message) : Type 0 where
-  -- R, O, routes
+  -- R, O, and the ends
   pub known : Every (Known t) l
   -- R: the pools
   pub pools : (m j : ℕ) → m < 16 → j < 64 → poolAt t m j ≤ jobAt t j .replica
@@ -133,6 +134,7 @@ pub record Placed (t : Table) (v : Job) : Type 0 where
   pub holder : v .state ≡ OPEN → toldAt t 0 (v .holder) ≡ 0
   pub thief : v .state ≡ OPEN → v .moving ≡ 1 → toldAt t 0 (v .thief) ≡ 0
 
+-- D1, F, D2, R and P: what no machine was told of
 pub record Untold (t : Table) (l : List Message) : Type 0 where
   -- D1, F
   pub sender : Every (Sender t) l

@@ -35,7 +35,7 @@ transfer-same t u jb nd pl l i =
 transfer-apart : (t : Table) (n : ℕ) (k l : List Message) → Transfer t l → Transfer (withMessages t n k) l
 transfer-apart t n k l i = transfer-same t (withMessages t n k) (λ j. simp views) (λ m. simp views) (λ m j. simp views) l i
 
--- ---- the received message is sent, after updates that leave the messages in flight as they were
+-- ---- a message y, counted already, is sent, after updates that leave the messages in flight as they were
 
 pub transfer-sends : (s u : Table) (y : Message) → Frame s u → RoomFor s (y .to) → machineAt s 0 .alive ≡ 1 → (toRoot (y .kind) ≡ true → y .to ≡ 0)
     → Transfer u (y ∷ flight s) → Transfer (send u y) (flight (send u y))

@@ -228,12 +228,12 @@ module _ (s : Table) (x : Message) (h : Received s x) (pools : (m j : ℕ) → m
       (λ e. untold-fish) untold-req (λ e. untold-auth) (λ e. untold-denied) (λ e. untold-obsolete) (λ e. untold-schedule) untold-ack
       (λ e. untold-nowork) (λ e. untold-result)
 
-pools-pulled : (t : Table) (k : ℕ) → ((m j : ℕ) → m < 16 → j < 64 → poolAt t m j ≤ jobAt t j .replica) → (m j : ℕ) → m < 16 → j < 64
+pools-removed : (t : Table) (k : ℕ) → ((m j : ℕ) → m < 16 → j < 64 → poolAt t m j ≤ jobAt t j .replica) → (m j : ℕ) → m < 16 → j < 64
     → poolAt (removeAt t k) m j ≤ jobAt (removeAt t k) j .replica
 unfolding removeAt
-pools-pulled t k p = simp views p
+pools-removed t k p = simp views p
 
 pub untold-delivered : (t : Table) (k : ℕ) → Invariant t → k < t .«in_flight» → Untold (delivered t k) (flight (delivered t k))
 unfolding delivered
-untold-delivered t k w l = untold-handle (removeAt t k) (messageAt t k) (received t k w l) (pools-pulled t k (w .transfer .pools))
+untold-delivered t k w l = untold-handle (removeAt t k) (messageAt t k) (received t k w l) (pools-removed t k (w .transfer .pools))
     (untold-takes t k (w .sized) l (w .untold))

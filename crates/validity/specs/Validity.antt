@@ -9,8 +9,8 @@
 --                                                         told flags: toldOk; message kinds: kindOk (E)
 --   "term outside its range"                              bondOk (E), by the pricer's inRange
 --   "an unused part not 0"                                entries from n on: emptyBond, jobOk, cellOk; a job not admitted: emptyJob;
---                                                         not priced: admittedOk;
---                                                         on one machine: placeOk; machines from the count on: machineOk, toldOk, cellOk;
+--                                                         a job not priced: admittedOk; a job on one machine: placeOk;
+--                                                         machines from the count on: machineOk, toldOk, cellOk;
 --                                                         a dead machine: emptyMachine, cellOk; no reserved or running copy: reservedOk, runningOk;
 --                                                         a message kind's parts: kindOk, carriesOk, thiefOk; slots past the last: emptyMessage (E)
 --   "a message to a dead machine"                         slotOk (E)
@@ -78,5 +78,6 @@ toldsOk t = all (toldRow t) 16
 
 -- none of the conditions of row 9 holds
 unfoldable pub tableOk : Table → Bool
-tableOk t = sizesOk t && bondsOk t && jobsOk t (maxReplica t) && machinesOk t (maxReplica t) && poolsOk t (maxReplica t) && messagesOk t
-    (maxReplica t) && rootOk t && toldsOk t
+tableOk t =
+    sizesOk t && bondsOk t && jobsOk t (maxReplica t) && machinesOk t (maxReplica t) && poolsOk t (maxReplica t)
+    && messagesOk t (maxReplica t) && rootOk t && toldsOk t

@@ -76,7 +76,7 @@ abbrev pub machineOk : ℕ → ℕ → ℕ → ℕ → Machine → Bool
 machineOk machines entries b m n =
     emptyMachine n || ltb m machines && eqb (n .alive) 1 && leb (n .waits) machines && reservedOk machines entries b n && runningOk entries b n
 
--- "which dead machines it has been told of": a machine of a machine, and that one is not alive; x is the flag, alive that of machine d
+-- "which dead machines it has been told of": m and d are machines of the table, and d is not alive; x is the flag, alive is that of machine d
 abbrev pub toldOk : ℕ → ℕ → ℕ → ℕ → ℕ → Bool
 toldOk machines alive m d x = eqb x 0 || eqb x 1 && ltb m machines && ltb d machines && eqb alive 0
 

@@ -20,19 +20,19 @@ fn empty_message(m: Message) -> bool
 fn with_copy(k: u8) -> bool
     ensures { λ r. ⌜ r ≡ withCopy k ⌝ }
 {
-    (2 <= k) & (k <= 7) | (k == 9)
+    (table::REQ <= k) & (k <= table::ACK) | (k == table::RESULT)
 }
 
 fn with_thief(k: u8) -> bool
     ensures { λ r. ⌜ r ≡ withThief k ⌝ }
 {
-    (2 <= k) & (k <= 5)
+    (table::REQ <= k) & (k <= table::OBSOLETE)
 }
 
 fn to_root(k: u8) -> bool
     ensures { λ r. ⌜ r ≡ toRoot k ⌝ }
 {
-    (k == 2) | (k == 7) | (k == 9)
+    (k == table::REQ) | (k == table::ACK) | (k == table::RESULT)
 }
 
 fn kind_ok(m: Message) -> bool

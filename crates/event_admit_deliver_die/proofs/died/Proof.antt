@@ -1,4 +1,4 @@
--- `event_admit_deliver_die::died` meets its contract. The equations of `clearPool` and `drop_to`, and between them one store.
+-- `event_admit_deliver_die::died` meets its contract. The equations of `clear_pool` and `drop_to`, and between them one store.
 -- Assumes nothing.
 use borrow.Author.Needs.{needs}
 use Rattle.lists.proofs.Rules.{tests}
