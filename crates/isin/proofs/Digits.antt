@@ -3,12 +3,12 @@ use mathlib.Core.Path.{_≡_, refl, sym, ap, _∙_}
 use mathlib.Core.Bool.{Bool, true, false, not}
 use mathlib.Core.List.{List, _∷_}
 use Prim.Native.Nat.{ℕ, suc, _+_, _-_, _/_, _%_, _<_, _≤_}
-use native.Mathlib.Nat.{add-comm, add-assoc}
+use native.Mathlib.Nat.{add-comm}
 use native.Mathlib.Omega.{arith}
 use borrow.Author.Tests.{lt-ltb, le-ltb}
 use lib.ListN.{length, drop, getD}
 use lib.Seq.{drop-cons, drop-length}
-use Rattle.isin.specs.Isin.{valueOf, digitsOf, expanded, weight, twice, digitSum}
+use Rattle.isin.specs.Isin.{valueOf, expanded, weight, twice, digitSum}
 
 -- what stands at i - 1, before what is dropped at i
 back : (i : ℕ) → 0 < i → suc (i - 1) ≡ i

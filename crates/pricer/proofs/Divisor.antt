@@ -2,8 +2,8 @@
 -- is not negative. The bounds are wider than the book's, whose yields start at 0 and whose k is 2, so that a wider range or another number of
 -- payments in a year changes no argument here. Assumes nothing.
 use mathlib.Core.Path.{_≡_, refl, sym, ap, _∙_, subst}
-use mathlib.Core.Logic.{_⊎_, inl, inr}
-use mathlib.Core.Bool.{Bool, true, false, not, _&&_, _||_, cond}
+use mathlib.Core.Logic.{inl, inr}
+use mathlib.Core.Bool.{Bool, true, false, _&&_, _||_, cond}
 use Prim.Native.Nat.{ℕ, zero, suc, _+_, _-_, _*_, _^_, _≤_, _<_, zero-le}
 use native.Mathlib.Nat.{eq-zero-or-pos, le-of-lt, le-of-eq, le-trans, zero-mul, mul-comm, mul-pos, mul-le-mul, mul-assoc}
 use native.Mathlib.Omega.{arith}

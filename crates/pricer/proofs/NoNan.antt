@@ -1,14 +1,14 @@
 -- No price of a bond in range is a NaN, so its bits are those of one number. Nothing is asked of the coupon but that it is not below zero, and of d
 -- but that it is finite and above zero: a price is then never negative, whatever its size. Assumes nothing.
 use mathlib.Core.Path.{_≡_, sym, subst}
-use mathlib.Core.Bool.{Bool, true, not, _&&_}
+use mathlib.Core.Bool.{true, not, _&&_}
 use Prim.Native.Nat.{ℕ, zero, suc}
 use lib.Dec.{T}
 use lib.Ieee.{Float, le, isNan}
 use lib.Ieee.Fits.{and-l, and-r}
 use lib.Ieee.Positive.{positive}
 use Rattle.lists.proofs.Cases.{and-right}
-use Rattle.pricer.specs.Price.{one, two, hundred, perPeriod, divisor, zeroAfter, fixedAfter, priceBy, priceOf}
+use Rattle.pricer.specs.Price.{two, hundred, perPeriod, divisor, zeroAfter, fixedAfter, priceBy, priceOf}
 use Rattle.pricer.specs.Range.{zeroFloat, lowestYield, highestYield, yieldInRange, periodsInRange, termsInRange, inRange}
 use Rattle.pricer.specs.declared.Terms.{Terms}
 use Rattle.pricer.specs.declared.Terms.the-variants.{Zero, Fixed}

@@ -1,16 +1,13 @@
 -- Floats that are neither a NaN nor negative: rounding, addition and division keep them so. Assumes nothing.
-use mathlib.Core.Path.{_≡_, refl, sym, ap, _∙_, subst}
-use mathlib.Core.Logic.{_⊎_, inl, inr}
+use mathlib.Core.Path.{_≡_, refl, sym, subst}
 use mathlib.Core.Bool.{Bool, true, false, not, cond}
-use Prim.Native.Nat.{ℕ, zero, suc, _+_, _-_, _*_, _^_, _≤_, _<_}
-use native.Mathlib.Nat.{eq-zero-or-pos, not-le-of-lt, zero-mul, mul-pos}
+use Prim.Native.Nat.{ℕ, zero, suc, _+_, _-_, _*_, _≤_, _<_}
+use native.Mathlib.Nat.{not-le-of-lt, zero-mul}
 use native.Mathlib.Omega.{arith}
 use lib.Dec.{T, ltb, eqb, eqb→eq, ltb→lt, not-T}
-use lib.Pow.{pow-pos}
 use lib.Ieee.{Float, nan, inf, fin, binary64, up, down, low, prec, odd, units, round, sum, add, div, isNan}
-use lib.Ieee.Fits.{up-pos, down-pos, round-is, eq→eqb}
+use lib.Ieee.Fits.{round-is}
 use lib.Ieee.Bits.{cond-no}
-use lib.Ieee.Exact.{HasValue, round-exact}
 use lib.Ieee.Positive.{positive}
 
 -- ---- the two notions

@@ -1,8 +1,8 @@
 -- `book::equal` meets its contract. The invariant: what holds of the two is what holds of their rests from i on. Assumes nothing.
 use borrow.Author.Needs.{needs}
-use Prim.Native.Nat.{_≤_, _-_, _<_}
+use Prim.Native.Nat.{_≤_, _-_}
 use native.Mathlib.Omega.{arith}
-use mathlib.Core.Path.{_≡_, refl, sym, ap, _∙_}
+use mathlib.Core.Path.{_≡_, refl, sym, _∙_}
 use lib.ListN.{length, drop, drop-of-length-le}
 use Rattle.book.specs.Book.{sameBytes}
 use Rattle.book.proofs.Rests.{differ-in-length, both-end, agree, differ}

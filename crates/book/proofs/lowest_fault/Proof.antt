@@ -1,7 +1,7 @@
 -- `book::lowest_fault` meets its contract. The invariant: no entry before i is faulty. Assumes nothing.
 use borrow.Author.Needs.{needs}
 use Prim.Native.Nat.{_≤_, _-_}
-use mathlib.Core.Path.{_≡_, sym, ap, _∙_, subst}
+use mathlib.Core.Path.{_≡_, sym, ap, _∙_}
 use mathlib.Core.Bool.{not}
 use borrow.Author.Tests.{eq-eqb}
 use native.Mathlib.Nat.{le-antisymm}

@@ -1,7 +1,6 @@
 -- `book::seen_before` meets its contract. The invariant: each entry before k has another identifier than entry i. Assumes nothing.
 use borrow.Author.Needs.{needs}
-use Prim.Native.Nat.{ℕ, _≤_, _+_, _-_, _*_}
-use native.Mathlib.Omega.{arith}
+use Prim.Native.Nat.{_≤_, _+_, _-_, _*_}
 use mathlib.Core.Path.{_≡_, ap, _∙_}
 use mathlib.Core.Bool.{true, not}
 use Rattle.lists.specs.Scan.{all}

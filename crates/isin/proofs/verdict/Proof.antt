@@ -1,10 +1,8 @@
 -- `isin::verdict` meets its contract: what has the form has twelve characters, of which the first eleven are summed. Assumes nothing.
 use borrow.Author.Needs.{needs}
 use borrow.Author.Tests.{eq-eqb, ne-eqb, not-true, not-false}
-use native.Mathlib.Omega.{arith}
-use Prim.Native.Nat.{ℕ}
 use mathlib.Core.Path.{_≡_, sym, _∙_}
-use mathlib.Core.Bool.{true, false}
+use mathlib.Core.Bool.{true}
 use denote.Ref.{now}
 use lib.ListN.{length}
 use Rattle.isin.specs.Isin.{hasForm, total, verdictOf}
