@@ -26,7 +26,7 @@ fn numbers_of(fresh: &Table, events: &[u8], step: fn(&mut Table, &[u8]) -> u8) -
     events.chunks(3).map(|event| step(&mut table, event) as u32).sum()
 }
 
-fn kept_numbers(book: &[u8], events: &[u8], table: &mut [u8; TABLE]) -> u32 {
+fn snapshot_numbers(book: &[u8], events: &[u8], table: &mut [u8; TABLE]) -> u32 {
     unsafe {
         assert_eq!(rakhvide_open(book.as_ptr(), book.len(), table.as_mut_ptr(), TABLE), 0);
         events.chunks(3).map(|event| rakhvide_step(table.as_mut_ptr(), TABLE, event.as_ptr(), 3) as u32).sum()
@@ -55,11 +55,11 @@ fn row(machines: u8, count: usize) {
     let fresh = bench::fresh(&book);
     let events = bench::events(machines, count);
     let mut out = vec![0; page::LONGEST];
-    let mut kept = [0; TABLE];
+    let mut snapshot = [0; TABLE];
     let written = proved_page(&book, &events, &mut out);
     assert_eq!(page::page(&book, &events).as_bytes(), &out[..written]);
-    assert_eq!(kept_numbers(&book, &events, &mut kept), numbers_of(&fresh, &events, events::step));
-    let last = kept;
+    assert_eq!(snapshot_numbers(&book, &events, &mut snapshot), numbers_of(&fresh, &events, events::step));
+    let last = snapshot;
     let rounds = (600_000 / count).clamp(10, 100);
     let times = best(
         rounds,
@@ -69,7 +69,7 @@ fn row(machines: u8, count: usize) {
                 black_box(proved_page(&book, &events, &mut out));
             }),
             Box::new(|| {
-                black_box(kept_numbers(&book, &events, &mut kept));
+                black_box(snapshot_numbers(&book, &events, &mut snapshot));
             }),
             Box::new(|| {
                 black_box(

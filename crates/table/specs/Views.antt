@@ -1,7 +1,8 @@
 -- The table as it is read and changed: views of its parts, and one update for each part. Both are opaque: a proof of code unfolds them by the one
 -- name `parts`, any other proof goes by their laws (proofs/Views.antt). Only the updates name every field of a table.
 --
--- What document 01 lists under "The table", with the counts of "The book", and the field that holds it (j < 64 a job, m < 16 a machine, i < 128 a slot):
+-- What document 01 lists under "The table", with the counts of "The book", and the field that holds it
+-- (j < 64 a job, m < 16 a machine, i < 128 a slot):
 --
 --   "Bytes 0 and 1: machine count, 2 to 16"                          machine_count
 --   "entry count n, 0 to 64"                                         entry_count

@@ -140,9 +140,9 @@ fn same_page(trial: &mut Trial, rng: &mut Rng, book: &[u8], events: &[u8]) -> Re
 pub fn run(trial: &mut Trial, rng: &mut Rng) -> Outcome {
     let (bytes, aim) = book_of_run(rng);
     let mut table = Table::open(&Book::read(&bytes).expect("a book that passes"));
-    let mut kept = vec![0; BYTES];
-    same("open", trial.library.open(&bytes, &mut kept), 0)?;
-    same_bytes("open", &kept, &table.to_bytes())?;
+    let mut snapshot = vec![0; BYTES];
+    same("open", trial.library.open(&bytes, &mut snapshot), 0)?;
+    same_bytes("open", &snapshot, &table.to_bytes())?;
     let mut driver = Driver::new(rng, aim, &table);
     let mut list = Vec::new();
     let mut length = 0;
@@ -151,7 +151,7 @@ pub fn run(trial: &mut Trial, rng: &mut Rng) -> Outcome {
         length += 1;
         list.extend(event.get(..3).unwrap_or(&[]));
         let number =
-            step(trial, &mut table, &mut kept, &event).map_err(|text| format!("event {length} {text}"))?;
+            step(trial, &mut table, &mut snapshot, &event).map_err(|text| format!("event {length} {text}"))?;
         trial.coverage.answers.count(&event, number);
         trial.coverage.table(&table);
     }
@@ -195,16 +195,16 @@ fn extend_list(rng: &mut Rng, list: &mut Vec<u8>, table: &Table) {
 }
 
 /// One event on both; number and all bytes afterwards are compared.
-fn step(trial: &mut Trial, table: &mut Table, kept: &mut Vec<u8>, event: &[u8]) -> Result<u8, String> {
+fn step(trial: &mut Trial, table: &mut Table, snapshot: &mut Vec<u8>, event: &[u8]) -> Result<u8, String> {
     let oldest = match *event {
         [3, a, b, ..] => table.in_flight().iter().find(|m| m.from == a && m.to == b).copied(),
         _ => None,
     };
     let before = oldest.map(|_| table.clone());
     let number = events::step(table, event);
-    let library = trial.library.step(kept, event);
+    let library = trial.library.step(snapshot, event);
     same(&format!("{event:?}"), library, number)?;
-    same_bytes(&format!("{event:?} answered {number}"), kept, &table.to_bytes())?;
+    same_bytes(&format!("{event:?} answered {number}"), snapshot, &table.to_bytes())?;
     if let (Some(message), Some(before), 0) = (oldest, before, number) {
         trial.coverage.delivered(&message, &before, table);
     }
@@ -235,14 +235,14 @@ pub fn damaged(trial: &mut Trial, rng: &mut Rng) -> Outcome {
         if rng.chance(1, 12) {
             damage::targeted(rng, &mut changed);
         }
-        let mut kept = changed.to_bytes().to_vec();
+        let mut snapshot = changed.to_bytes().to_vec();
         if rng.chance(3, 5) {
-            (0..rng.pick(&[1, 1, 1, 2])).for_each(|_| damage::harm(rng, &mut kept));
+            (0..rng.pick(&[1, 1, 1, 2])).for_each(|_| damage::harm(rng, &mut snapshot));
         }
         if rng.chance(1, 40) {
-            kept.resize(rng.pick(&[0, 1, BYTES - 1, BYTES + 1]), 0);
+            snapshot.resize(rng.pick(&[0, 1, BYTES - 1, BYTES + 1]), 0);
         }
-        one_damaged(trial, rng, kept, &event).map_err(|text| format!("damaged table {number}: {text}"))?;
+        one_damaged(trial, rng, snapshot, &event).map_err(|text| format!("damaged table {number}: {text}"))?;
     }
     Ok(tables)
 }
@@ -255,25 +255,25 @@ fn event_for(rng: &mut Rng, table: &Table) -> Vec<u8> {
     }
 }
 
-fn one_damaged(trial: &mut Trial, rng: &mut Rng, mut kept: Vec<u8>, event: &[u8]) -> Result<(), String> {
-    let read = Table::from_bytes(&kept);
+fn one_damaged(trial: &mut Trial, rng: &mut Rng, mut snapshot: Vec<u8>, event: &[u8]) -> Result<(), String> {
+    let read = Table::from_bytes(&snapshot);
     let fault = match &read {
         None => Some(None),
         Some(table) => check::check(table).err().map(Some),
     };
     let number = if fault.is_some() { 9 } else { 0 };
-    same(&format!("check ({fault:?})"), trial.library.check(&kept), number)?;
+    same(&format!("check ({fault:?})"), trial.library.check(&snapshot), number)?;
     match (fault, read) {
         (None, Some(mut table)) => {
             trial.coverage.damaged_passed += 1;
-            some_steps(trial, rng, &mut table, &mut kept, event)
+            some_steps(trial, rng, &mut table, &mut snapshot, event)
         }
         (fault, _) => {
             *trial.coverage.faults.entry(fault.flatten()).or_default() += 1;
-            let before = kept.clone();
+            let before = snapshot.clone();
             trial.coverage.damaged_answers.count(event, 9);
-            same(&format!("{event:?}"), trial.library.step(&mut kept, event), 9)?;
-            same_bytes(&format!("{event:?} answered 9"), &kept, &before)
+            same(&format!("{event:?}"), trial.library.step(&mut snapshot, event), 9)?;
+            same_bytes(&format!("{event:?} answered 9"), &snapshot, &before)
         }
     }
 }
@@ -283,12 +283,12 @@ fn some_steps(
     trial: &mut Trial,
     rng: &mut Rng,
     table: &mut Table,
-    kept: &mut Vec<u8>,
+    snapshot: &mut Vec<u8>,
     event: &[u8],
 ) -> Result<(), String> {
     let mut event = event.to_vec();
     for _ in 0..1 + rng.below(8) {
-        let number = step(trial, table, kept, &event)?;
+        let number = step(trial, table, snapshot, &event)?;
         trial.coverage.damaged_answers.count(&event, number);
         event = event_for(rng, table);
     }
