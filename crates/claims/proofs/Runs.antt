@@ -1,4 +1,4 @@
--- Runs: their numbers, what `Answered` says of an event wherever it stands in its list, and one more event at the front.
+-- What `Answered` says of an event wherever it stands in its list, and what is counted with one more event at the front.
 -- Assumes nothing.
 use Prim.Native.Nat.{ℕ, _+_}
 use mathlib.Core.Path.{_≡_, refl, sym, _∙_}

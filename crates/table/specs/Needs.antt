@@ -1,4 +1,5 @@
--- What the code of the handlers and of the events asks of a message and of a table. A table that passes check 9 gives all of it.
+-- What the code of the handlers and of the events asks of a message and of a table. A table that passes check 9 gives `Within` and `Ready`;
+-- a slot is free where a message was taken off.
 use Prim.Native.Nat.{ℕ, _<_, _≤_}
 use Rattle.table.specs.declared.Message.{Message}
 use Rattle.table.specs.declared.Table.{Table}
