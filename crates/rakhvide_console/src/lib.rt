@@ -53,11 +53,10 @@ fn print(text: &[u8], book: &[u8], events: &[u8])
     }
 }
 
-// Prints the page of a book and a list of events, by way of the buffer.
-fn print_from(book: &[u8], events: &[u8], out: &mut [u8])
-    requires { ⌜ longest ≤ length (now out) ⌝ }
-{
-    let text = page::page_in(book, events, out);
+// Prints the page of a book and a list of events.
+fn print_page_of(book: &[u8], events: &[u8]) {
+    let mut out = [0u8; page::LONGEST];
+    let text = page::page_in(book, events, &mut out);
     print(text, book, events);
 }
 
@@ -70,6 +69,5 @@ pub fn print_page() {
     let n = load(b"book.bin", &mut book);
     let mut events = [0u8; page::BYTES_MOST];
     let m = load(b"events.bin", &mut events);
-    let mut out = [0u8; page::LONGEST];
-    print_from(&book[..n], &events[..m], &mut out);
+    print_page_of(&book[..n], &events[..m]);
 }

@@ -4,7 +4,7 @@ use Rattle.rakhvide_c.proofs.rakhvide_book.Statement.{statement}
 use Rattle.rakhvide_c.proofs.rakhvide_book.Tie as tie
 
 returns : tie.Need-returns
-returns c = cc
+returns c = c .verdict .ensures
 
 pub rakhvide-book-spec : {M : Type 1} → statement M
 rakhvide-book-spec = tie.close (tie.spec (λ c κs. search needs) returns)

@@ -4,7 +4,7 @@ use Rattle.rakhvide_c.proofs.rakhvide_identifier.Statement.{statement}
 use Rattle.rakhvide_c.proofs.rakhvide_identifier.Tie as tie
 
 returns : tie.Need-returns
-returns c = cc
+returns c = c .verdict .ensures
 
 pub rakhvide-identifier-spec : {M : Type 1} → statement M
 rakhvide-identifier-spec = tie.close (tie.spec (λ c κs. search needs) returns)
