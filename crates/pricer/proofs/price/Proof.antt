@@ -7,7 +7,7 @@ use Rattle.pricer.proofs.price.Tie as tie
 
 returns : tie.Need-returns
 unfolding priceOf
-returns c = cc
+returns c = c .price-zero .ensures ∙ sym (ap (priceBy (c .before .before .before .before .args .b .periods)) (c .before .before .t .given .1))
 
 returns-2 : tie.Need-returns-2
 unfolding priceOf

@@ -6,7 +6,7 @@ use Rattle.pricer.proofs.price_bits.Tie as tie
 
 returns : tie.Need-returns
 unfolding priceBits
-returns c = cc
+returns c = rw (c .bits .ensures, c .before .price .ensures)
 
 pub price-bits-spec : {M : Type 1} → statement M
 price-bits-spec = tie.close (tie.spec (λ c κs. search needs) (λ c κs. search needs) returns)

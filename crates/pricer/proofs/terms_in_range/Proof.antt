@@ -4,10 +4,10 @@ use Rattle.pricer.proofs.terms_in_range.Statement.{statement}
 use Rattle.pricer.proofs.terms_in_range.Tie as tie
 
 returns : tie.Need-returns
-returns c = cc
+returns c = rw (c .yield-in-range .ensures, c .before .before .t .given .1)
 
 returns-2 : tie.Need-returns-2
-returns-2 c = cc
+returns-2 c = rw (c .yield-in-range2 .ensures, c .before .coupon-in-range .ensures, c .before .before .before .t2 .given .1)
 
 pub terms-in-range-spec : {M : Type 1} → statement M
 terms-in-range-spec =

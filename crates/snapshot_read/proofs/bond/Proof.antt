@@ -6,7 +6,7 @@ use Rattle.snapshot_read.proofs.bond.Tie as tie
 
 returns : tie.Need-returns
 unfolding bondFrom
-returns c = cc
+returns c = rw (c .before .terms .ensures)
 
 pub bond-spec : {M : Type 1} → statement M
 bond-spec = tie.close (tie.spec (λ c κs. search needs) (λ c. search needs) (λ c. search needs) returns)

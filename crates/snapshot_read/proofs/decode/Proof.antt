@@ -6,7 +6,15 @@ use Rattle.snapshot_read.proofs.decode.Tie as tie
 
 returns : tie.Need-returns
 unfolding decode
-returns c = cc
+returns c =
+    rw (
+      c .before .before .before .before .before .before .before .before .bonds .ensures,
+      c .before .before .before .before .before .before .before .jobs .ensures,
+      c .before .before .before .before .before .before .machines .ensures,
+      c .before .before .before .before .before .told .ensures,
+      c .before .before .before .before .pools .ensures,
+      c .before .before .before .messages .ensures,
+    )
 
 pub decode-spec : {M : Type 1} → statement M
 decode-spec =

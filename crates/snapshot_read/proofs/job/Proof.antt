@@ -6,7 +6,7 @@ use Rattle.snapshot_read.proofs.job.Tie as tie
 
 returns : tie.Need-returns
 unfolding jobFrom
-returns c = cc
+returns c = rw (c .before .before .before .before .before .u64-at .ensures)
 
 pub job-spec : {M : Type 1} → statement M
 job-spec =

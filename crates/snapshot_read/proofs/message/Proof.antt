@@ -6,7 +6,7 @@ use Rattle.snapshot_read.proofs.message.Tie as tie
 
 returns : tie.Need-returns
 unfolding messageFrom
-returns c = cc
+returns c = rw (c .before .before .before .before .before .before .u64-at .ensures)
 
 pub message-spec : {M : Type 1} → statement M
 message-spec =

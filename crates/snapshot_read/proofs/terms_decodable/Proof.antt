@@ -6,7 +6,7 @@ use Rattle.snapshot_read.proofs.terms_decodable.Tie as tie
 
 returns : tie.Need-returns
 unfolding termsDecodable
-returns c = cc
+returns c = rw (c .before .u64-at .ensures)
 
 pub terms-decodable-spec : {M : Type 1} → statement M
 terms-decodable-spec =

@@ -5,7 +5,13 @@ use Rattle.validity_element.proofs.job_ok.Statement.{statement}
 use Rattle.validity_element.proofs.job_ok.Tie as tie
 
 returns : tie.Need-returns
-returns c = cc
+returns c =
+    rw (
+      c .before .before .before .empty-job .ensures,
+      c .before .before .admitted-ok .ensures,
+      c .before .copy-ok .ensures,
+      c .place-ok .ensures,
+    )
 
 pub job-ok-spec : {M : Type 1} → statement M
 job-ok-spec =

@@ -5,7 +5,7 @@ use Rattle.validity_element.proofs.machine_ok.Statement.{statement}
 use Rattle.validity_element.proofs.machine_ok.Tie as tie
 
 returns : tie.Need-returns
-returns c = cc
+returns c = rw (c .before .before .before .before .empty-machine .ensures, c .before .reserved-ok .ensures, c .running-ok .ensures)
 
 pub machine-ok-spec : {M : Type 1} → statement M
 machine-ok-spec =

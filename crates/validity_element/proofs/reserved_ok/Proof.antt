@@ -5,7 +5,7 @@ use Rattle.validity_element.proofs.reserved_ok.Statement.{statement}
 use Rattle.validity_element.proofs.reserved_ok.Tie as tie
 
 returns : tie.Need-returns
-returns c = cc
+returns c = rw (c .before .copy-ok .ensures)
 
 pub reserved-ok-spec : {M : Type 1} → statement M
 reserved-ok-spec = tie.close (tie.spec (λ c κs. search needs) returns)

@@ -5,7 +5,13 @@ use Rattle.validity_message.proofs.message_ok.Statement.{statement}
 use Rattle.validity_message.proofs.message_ok.Tie as tie
 
 returns : tie.Need-returns
-returns c = cc
+returns c =
+    rw (
+      c .before .before .before .kind-ok .ensures,
+      c .before .before .ends-ok .ensures,
+      c .before .carries-ok .ensures,
+      c .thief-ok .ensures,
+    )
 
 pub message-ok-spec : {M : Type 1} → statement M
 message-ok-spec =

@@ -5,7 +5,7 @@ use Rattle.validity_message.proofs.thief_ok.Statement.{statement}
 use Rattle.validity_message.proofs.thief_ok.Tie as tie
 
 returns : tie.Need-returns
-returns c = cc
+returns c = rw (c .before .before .with-thief .ensures)
 
 pub thief-ok-spec : {M : Type 1} → statement M
 thief-ok-spec = tie.close (tie.spec (λ c κs. search needs) returns)
