@@ -58,28 +58,16 @@ fn event_number(t: Table, code: u8, a: u8, b: u8) -> u8
     requires { ⌜ indicesInRange t code a b ≡ true ⌝ }
     ensures { λ r. ⌜ r ≡ eventOf t code a b .number ⌝ }
 {
-    if code == ADMIT {
-        return event_admit_deliver_die::admit_number(t, a);
+    match code {
+        ADMIT => event_admit_deliver_die::admit_number(t, a),
+        STEAL => event_steal::steal_number(t, a, b),
+        DELIVER => event_admit_deliver_die::deliver_number(t, a, b),
+        START => event_start_done::start_number(t, a, b),
+        DONE => event_start_done::done_number(t, a),
+        DIE => event_admit_deliver_die::die_number(t, a),
+        NOTICE => event_notice::notice_number(t, a, b),
+        _ => 10,
     }
-    if code == STEAL {
-        return event_steal::steal_number(t, a, b);
-    }
-    if code == DELIVER {
-        return event_admit_deliver_die::deliver_number(t, a, b);
-    }
-    if code == START {
-        return event_start_done::start_number(t, a, b);
-    }
-    if code == DONE {
-        return event_start_done::done_number(t, a);
-    }
-    if code == DIE {
-        return event_admit_deliver_die::die_number(t, a);
-    }
-    if code == NOTICE {
-        return event_notice::notice_number(t, a, b);
-    }
-    10
 }
 
 // The table after the event of a code whose number is 0.
@@ -89,28 +77,16 @@ fn event_table(t: Table, code: u8, a: u8, b: u8) -> Table
     requires { ⌜ eventOf t code a b .number ≡ 0 ⌝ }
     ensures { λ r. ⌜ r ≡ eventOf t code a b .table ⌝ }
 {
-    if code == ADMIT {
-        return event_admit_deliver_die::admitted(t, a);
+    match code {
+        ADMIT => event_admit_deliver_die::admitted(t, a),
+        STEAL => event_steal::stolen(t, a, b),
+        DELIVER => event_admit_deliver_die::delivered(t, a, b),
+        START => event_start_done::started(t, a, b),
+        DONE => event_start_done::finished(t, a),
+        DIE => event_admit_deliver_die::died(t, a),
+        NOTICE => event_notice::noticed(t, a, b),
+        _ => t,
     }
-    if code == STEAL {
-        return event_steal::stolen(t, a, b);
-    }
-    if code == DELIVER {
-        return event_admit_deliver_die::delivered(t, a, b);
-    }
-    if code == START {
-        return event_start_done::started(t, a, b);
-    }
-    if code == DONE {
-        return event_start_done::finished(t, a);
-    }
-    if code == DIE {
-        return event_admit_deliver_die::died(t, a);
-    }
-    if code == NOTICE {
-        return event_notice::noticed(t, a, b);
-    }
-    t
 }
 
 // The number of one event on a table that passes check 9, which is not tested again: for a run, whose every table passes.

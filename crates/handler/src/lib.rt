@@ -12,32 +12,16 @@ pub fn handle(t: Table, m: Message) -> Table
     ensures { λ r. ⌜ r ≡ handle t m ⌝ }
 {
     let kind = m.kind;
-    if kind == table::FISH {
-        return handler_victim::on_fish(t, m);
+    match kind {
+        table::FISH => handler_victim::on_fish(t, m),
+        table::REQ => handler_root::on_req(t, m),
+        table::AUTH => handler_victim::on_auth(t, m),
+        table::DENIED => handler_victim::on_denied(t, m),
+        table::OBSOLETE => handler_victim::on_obsolete(t, m),
+        table::SCHEDULE => handler_thief::on_schedule(t, m),
+        table::ACK => handler_root::on_ack(t, m),
+        table::NOWORK => handler_thief::on_no_work(t, m),
+        table::RESULT => handler_root::on_result(t, m),
+        _ => t,
     }
-    if kind == table::REQ {
-        return handler_root::on_req(t, m);
-    }
-    if kind == table::AUTH {
-        return handler_victim::on_auth(t, m);
-    }
-    if kind == table::DENIED {
-        return handler_victim::on_denied(t, m);
-    }
-    if kind == table::OBSOLETE {
-        return handler_victim::on_obsolete(t, m);
-    }
-    if kind == table::SCHEDULE {
-        return handler_thief::on_schedule(t, m);
-    }
-    if kind == table::ACK {
-        return handler_root::on_ack(t, m);
-    }
-    if kind == table::NOWORK {
-        return handler_thief::on_no_work(t, m);
-    }
-    if kind == table::RESULT {
-        return handler_root::on_result(t, m);
-    }
-    t
 }

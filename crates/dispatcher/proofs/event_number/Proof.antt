@@ -1,4 +1,4 @@
--- `dispatcher::event_number` meets its contract. What refusal 11 tested gives each event its numbers.
+-- `dispatcher::event_number` meets its contract: by the code, which names the event. What refusal 11 tested gives each event its numbers.
 -- Assumes nothing.
 use borrow.Author.Needs.{needs}
 use Prim.Native.Nat.{ℕ}
@@ -10,53 +10,50 @@ use Rattle.dispatcher.proofs.event_number.Statement.{statement}
 use Rattle.dispatcher.proofs.event_number.Tie as tie
 
 admit-number-requires : tie.Need-admit-number-requires
-admit-number-requires c κs = let p = c .before .pre in entry-below _ (p .0) _ _ _ (p .1) (c .if1 .taken)
+admit-number-requires c κs = let p = c .before .pre in entry-below _ (p .0) _ _ _ (p .1) (c .match .keys1)
+
+steal-number-requires : tie.Need-steal-number-requires
+steal-number-requires c κs = let p = c .before .pre in machines-below _ (p .0) _ _ _ (p .1) (ap (λ (k : ℕ). twoMachines k) (c .match .keys2))
+
+start-number-requires : tie.Need-start-number-requires
+start-number-requires c κs = let p = c .before .pre in start-below _ (p .0) _ _ _ (p .1) (c .match .keys4)
+
+done-number-requires : tie.Need-done-number-requires
+done-number-requires c κs = let p = c .before .pre in machines-below _ (p .0) _ _ _ (p .1) (ap (λ (k : ℕ). twoMachines k) (c .match .keys5)) .0
+
+die-number-requires : tie.Need-die-number-requires
+die-number-requires c κs = let p = c .before .pre in machines-below _ (p .0) _ _ _ (p .1) (ap (λ (k : ℕ). twoMachines k) (c .match .keys6)) .0
+
+notice-number-requires : tie.Need-notice-number-requires
+notice-number-requires c κs = let p = c .before .pre in machines-below _ (p .0) _ _ _ (p .1) (ap (λ (k : ℕ). twoMachines k) (c .match .keys7))
 
 returns : tie.Need-returns
 unfolding eventOf
-returns c = search flags
-
-steal-number-requires : tie.Need-steal-number-requires
-steal-number-requires c κs = let p = c .before .before .pre in machines-below _ (p .0) _ _ _ (p .1) (ap (λ (k : ℕ). twoMachines k) (c .if2 .taken))
+returns c = rw (c .admit-number .ensures, c .before .match .keys1)
 
 returns-2 : tie.Need-returns-2
 unfolding eventOf
-returns-2 c = search flags
+returns-2 c = rw (c .steal-number .ensures, c .before .match .keys2)
 
 returns-3 : tie.Need-returns-3
 unfolding eventOf
-returns-3 c = search flags
-
-start-number-requires : tie.Need-start-number-requires
-start-number-requires c κs = let p = c .before .before .before .before .pre in start-below _ (p .0) _ _ _ (p .1) (c .if4 .taken)
+returns-3 c = rw (c .deliver-number .ensures, c .before .match .keys3)
 
 returns-4 : tie.Need-returns-4
 unfolding eventOf
-returns-4 c = search flags
-
-done-number-requires : tie.Need-done-number-requires
-done-number-requires c κs = let p = c .before .before .before .before .before .pre in
-    machines-below _ (p .0) _ _ _ (p .1) (ap (λ (k : ℕ). twoMachines k) (c .if5 .taken)) .0
+returns-4 c = rw (c .start-number .ensures, c .before .match .keys4)
 
 returns-5 : tie.Need-returns-5
 unfolding eventOf
-returns-5 c = search flags
-
-die-number-requires : tie.Need-die-number-requires
-die-number-requires c κs = let p = c .before .before .before .before .before .before .pre in
-    machines-below _ (p .0) _ _ _ (p .1) (ap (λ (k : ℕ). twoMachines k) (c .if6 .taken)) .0
+returns-5 c = rw (c .done-number .ensures, c .before .match .keys5)
 
 returns-6 : tie.Need-returns-6
 unfolding eventOf
-returns-6 c = search flags
-
-notice-number-requires : tie.Need-notice-number-requires
-notice-number-requires c κs = let p = c .before .before .before .before .before .before .before .pre in
-    machines-below _ (p .0) _ _ _ (p .1) (ap (λ (k : ℕ). twoMachines k) (c .if7 .taken))
+returns-6 c = rw (c .die-number .ensures, c .before .match .keys6)
 
 returns-7 : tie.Need-returns-7
 unfolding eventOf
-returns-7 c = search flags
+returns-7 c = rw (c .notice-number .ensures, c .before .match .keys7)
 
 returns-8 : tie.Need-returns-8
 unfolding eventOf
@@ -67,17 +64,17 @@ event-number-spec =
     tie.close
     (tie.spec
     admit-number-requires
-    returns
     steal-number-requires
-    returns-2
     (λ c κs. search needs)
-    returns-3
     start-number-requires
-    returns-4
     done-number-requires
-    returns-5
     die-number-requires
-    returns-6
     notice-number-requires
+    returns
+    returns-2
+    returns-3
+    returns-4
+    returns-5
+    returns-6
     returns-7
     returns-8)

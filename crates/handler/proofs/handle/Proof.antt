@@ -1,4 +1,4 @@
--- `handler::handle` meets its contract. The kinds are tested in the order of the definition.
+-- `handler::handle` meets its contract: by the kind, which names the handler.
 -- Assumes nothing.
 use borrow.Author.Needs.{needs}
 use Rattle.lists.proofs.Rules.{flags}
@@ -8,39 +8,39 @@ use Rattle.handler.proofs.handle.Tie as tie
 
 returns : tie.Need-returns
 unfolding handle
-returns c = search flags
+returns c = rw (c .on-fish .ensures, c .before .match .keys1)
 
 returns-2 : tie.Need-returns-2
 unfolding handle
-returns-2 c = search flags
+returns-2 c = rw (c .on-req .ensures, c .before .match .keys2)
 
 returns-3 : tie.Need-returns-3
 unfolding handle
-returns-3 c = search flags
+returns-3 c = rw (c .on-auth .ensures, c .before .match .keys3)
 
 returns-4 : tie.Need-returns-4
 unfolding handle
-returns-4 c = search flags
+returns-4 c = rw (c .on-denied .ensures, c .before .match .keys4)
 
 returns-5 : tie.Need-returns-5
 unfolding handle
-returns-5 c = search flags
+returns-5 c = rw (c .on-obsolete .ensures, c .before .match .keys5)
 
 returns-6 : tie.Need-returns-6
 unfolding handle
-returns-6 c = search flags
+returns-6 c = rw (c .on-schedule .ensures, c .before .match .keys6)
 
 returns-7 : tie.Need-returns-7
 unfolding handle
-returns-7 c = search flags
+returns-7 c = rw (c .on-ack .ensures, c .before .match .keys7)
 
 returns-8 : tie.Need-returns-8
 unfolding handle
-returns-8 c = search flags
+returns-8 c = rw (c .on-no-work .ensures, c .before .match .keys8)
 
 returns-9 : tie.Need-returns-9
 unfolding handle
-returns-9 c = search flags
+returns-9 c = rw (c .on-result .ensures, c .before .match .keys9)
 
 returns-10 : tie.Need-returns-10
 unfolding handle
@@ -51,21 +51,21 @@ handle-spec =
     tie.close
     (tie.spec
     (λ c κs. search needs)
+    (λ c κs. search needs)
+    (λ c κs. search needs)
+    (λ c κs. search needs)
+    (λ c κs. search needs)
+    (λ c κs. search needs)
+    (λ c κs. search needs)
+    (λ c κs. search needs)
+    (λ c κs. search needs)
     returns
-    (λ c κs. search needs)
     returns-2
-    (λ c κs. search needs)
     returns-3
-    (λ c κs. search needs)
     returns-4
-    (λ c κs. search needs)
     returns-5
-    (λ c κs. search needs)
     returns-6
-    (λ c κs. search needs)
     returns-7
-    (λ c κs. search needs)
     returns-8
-    (λ c κs. search needs)
     returns-9
     returns-10)
