@@ -123,14 +123,14 @@ fn size_at(s: &[u8], at: usize) -> u8
 }
 
 // The machine count of an accepted book, else 0.
-pub fn machines(s: &[u8]) -> u8
+pub fn machine_count(s: &[u8]) -> u8
     ensures { λ r. ⌜ r ≡ machineCount (now (s .entry)) ⌝ }
 {
     size_at(s, 0)
 }
 
 // The entry count of an accepted book, else 0.
-pub fn entries(s: &[u8]) -> u8
+pub fn entry_count(s: &[u8]) -> u8
     ensures { λ r. ⌜ r ≡ entryCount (now (s .entry)) ⌝ }
 {
     size_at(s, 2)
@@ -198,7 +198,7 @@ pub fn term_bond_at(s: &[u8], n: usize, i: usize) -> Bond
 pub fn bond(s: &[u8], i: usize) -> Bond
     ensures { λ r. ⌜ r ≡ bondOf (now (s .entry)) i ⌝ }
 {
-    let n = entries(s) as usize;
+    let n = entry_count(s) as usize;
     if i < n {
         term_bond_at(s, n, i)
     } else {

@@ -8,7 +8,7 @@ use lib.Dec.{eqb, leb}
 use Rattle.lists.proofs.Cases.{byBool}
 use Rattle.table.specs.declared.Table.{Table}
 use Rattle.table.specs.Views.{machineAt, toldAt}
-use Rattle.table.specs.Messages.{RoomFor}
+use Rattle.table.specs.Needs.{RoomFor}
 use Rattle.table.specs.Parts.{lives}
 use Rattle.table.proofs.Refusals.{Judged}
 use Rattle.event_steal.specs.Steal.{stolen, stealOf}

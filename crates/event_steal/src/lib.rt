@@ -2,7 +2,7 @@
 // makes where that number is 0.
 ghost use mathlib.Core.Path.{_≡_};
 ghost use Prim.Native.Nat.{_<_};
-ghost use Rattle.table.specs.Messages.{RoomFor};
+ghost use Rattle.table.specs.Needs.{RoomFor};
 ghost use Rattle.event_steal.specs.Steal.{stolen, stealOf};
 use table::Message;
 use table::Table;

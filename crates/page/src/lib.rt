@@ -28,7 +28,7 @@ fn put_entries(book: &[u8], t: Table, out: &mut [u8], at: usize) -> usize
     requires { ⌜ at + entriesMost ≤ length (now out) ⌝ }
     ensures { λ r. ⌜ Written (now (out .entry)) at (entriesText (now (book .entry)) t) (now (out .exit)) r ⌝ }
 {
-    let n = book::entries(book) as usize;
+    let n = book::entry_count(book) as usize;
     let mut end = at;
     let mut i: usize = 0;
     while i < n {

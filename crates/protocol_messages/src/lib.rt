@@ -2,7 +2,8 @@
 // Each public function equals the definition of its name in the crate `table`; `drop_to` and `drop_from` equal its `keepMessages`.
 ghost use mathlib.Core.Path.{_≡_};
 ghost use Prim.Native.Nat.{_<_, _≤_};
-ghost use Rattle.table.specs.Messages.{inChannel, send, RoomFor, oldest, removeAt, keepMessages, notTo, notFrom};
+ghost use Rattle.table.specs.Messages.{inChannel, send, oldest, removeAt, keepMessages, notTo, notFrom};
+ghost use Rattle.table.specs.Needs.{RoomFor};
 ghost use Rattle.protocol_messages.specs.NotDropped.{notDropped};
 use table::Message;
 use table::Table;

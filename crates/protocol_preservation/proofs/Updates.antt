@@ -16,7 +16,8 @@ use Rattle.table.specs.declared.Job.{Job}
 use Rattle.table.specs.declared.Machine.{Machine}
 use Rattle.table.specs.declared.Message.{Message}
 use Rattle.table.specs.Views.{machineAt, flight, withJob, withMachine, withPool, withMessages}
-use Rattle.table.specs.Messages.{push, removeAt, keepMessages, send, RoomFor}
+use Rattle.table.specs.Messages.{push, removeAt, keepMessages, send}
+use Rattle.table.specs.Needs.{RoomFor}
 use Rattle.table.proofs.Views.{Sized, views, job-same, job-other, machine-same, machine-other, pool-same, pool-other-machine, pool-other-job}
 use Rattle.table.proofs.Views.{alive-machine, length-flight}
 use Rattle.table.proofs.Messages.{Padded, sized-send, flight-push, flight-removeAt, flight-keepMessages, padded-push, padded-removeAt}

@@ -12,7 +12,8 @@ use lib.Seq.{take-suc-set, take-append-seam, take-append-le, drop-append-le, tak
 use Rattle.table.specs.declared.Table.{Table}
 use Rattle.table.specs.declared.Message.{Message}
 use Rattle.table.specs.Views.{noMessage, machineAt, flight, messageAt, withMessages}
-use Rattle.table.specs.Messages.{push, removeAt, keepMessages, send, RoomFor}
+use Rattle.table.specs.Messages.{push, removeAt, keepMessages, send}
+use Rattle.table.specs.Needs.{RoomFor}
 use Rattle.lists.specs.Scan.{without, filter, padTo}
 use lib.Dec.{eqb}
 use borrow.Author.Tests.{eqb-true}

@@ -16,7 +16,7 @@ use Rattle.table.specs.declared.Table.{Table}
 use Rattle.lists.proofs.Cases.{byBool, byEq}
 use Rattle.table.specs.Views.{noJob, noMachine, bondAt, jobAt, machineAt, poolAt, toldAt, messageAt, flight, withJob, withMachine, withPool}
 use Rattle.table.specs.Views.{withTold, withMessages}
-use Rattle.table.specs.Messages.{RoomFor}
+use Rattle.table.specs.Needs.{RoomFor}
 
 -- the arrays have their lengths
 pub record Sized (t : Table) : Type 0 where

@@ -1,8 +1,7 @@
 -- The messages: sending, finding the oldest of a channel, taking one off, dropping some.
-use mathlib.Core.Path.{_≡_}
 use mathlib.Core.List.{[], _∷_, _++_}
 use mathlib.Core.Bool.{Bool, not, cond, _&&_}
-use Prim.Native.Nat.{ℕ, _+_, _-_, _<_}
+use Prim.Native.Nat.{ℕ, _+_, _-_}
 use lib.Dec.{eqb}
 use lib.ListN.{length, set}
 use Rattle.lists.specs.Scan.{least, filter, padTo, without}
@@ -25,10 +24,6 @@ keepMessages t p = withMessages t (length (filter p (flight t))) (padTo 128 noMe
 -- "A message to a dead machine is stored nowhere."
 unfoldable pub send : Table → Message → Table
 send t m = cond (eqb (machineAt t (m .to) .alive) 1) (push t m) t
-
--- "up to 128 messages in flight": a slot is free for a message to machine b, where b lives
-abbrev pub RoomFor : Table → ℕ → Type 0
-RoomFor t b = machineAt t b .alive ≡ 1 → t .«in_flight» < 128
 
 -- "The channel from one machine to another": from a to b
 abbrev pub inChannel : ℕ → ℕ → Message → Bool

@@ -1,6 +1,7 @@
 -- What the code of the handlers and of the events asks of a message and of a table. A table that passes check 9 gives `Within` and `Ready`;
 -- a slot is free where a message was taken off.
 use Prim.Native.Nat.{ℕ, _<_, _≤_}
+use mathlib.Core.Path.{_≡_}
 use Rattle.table.specs.declared.Message.{Message}
 use Rattle.table.specs.declared.Table.{Table}
 use Rattle.table.specs.Views.{jobAt, machineAt, messageAt}
@@ -8,6 +9,10 @@ use Rattle.table.specs.Views.{jobAt, machineAt, messageAt}
 -- a slot is free
 pub record Room (t : Table) : Type 0 where
   pub free : t .«in_flight» < 128
+
+-- "up to 128 messages in flight": a slot is free for a message to machine b, where b lives
+abbrev pub RoomFor : Table → ℕ → Type 0
+RoomFor t b = machineAt t b .alive ≡ 1 → t .«in_flight» < 128
 
 -- a message's numbers are within the arrays
 pub record Within (m : Message) : Type 0 where

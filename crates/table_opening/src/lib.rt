@@ -38,7 +38,7 @@ fn no_bonds() -> [Bond; 64]
 fn bonds(s: &[u8]) -> [Bond; 64]
     ensures { λ r. ⌜ r ≡ bondsOf (now (s .entry)) ⌝ }
 {
-    let n = book::entries(s) as usize;
+    let n = book::entry_count(s) as usize;
     let mut out = no_bonds();
     let mut i: usize = 0;
     while i < n {
@@ -108,8 +108,8 @@ fn with_machines(t: Table, m: u8) -> Table
 pub fn fresh(s: &[u8]) -> Table
     ensures { λ r. ⌜ r ≡ freshOf (now (s .entry)) ⌝ }
 {
-    let m = book::machines(s);
-    let n = book::entries(s);
+    let m = book::machine_count(s);
+    let n = book::entry_count(s);
     let none = blank(m, n, bonds(s), [machine(0); 16]);
     with_machines(none, m)
 }

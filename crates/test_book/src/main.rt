@@ -76,7 +76,7 @@ fn sizes_agree(book: &[u8], number: u8, machines: u8, entries: u8) -> bool {
     if number != 0 {
         return true;
     }
-    (book::machines(book) == machines) & (book::entries(book) == entries)
+    (book::machine_count(book) == machines) & (book::entry_count(book) == entries)
 }
 
 // Whether the record is whole, and its book and entries are as it expects.

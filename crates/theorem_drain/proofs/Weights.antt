@@ -13,7 +13,8 @@ use Rattle.table.specs.declared.Message.{Message}
 use Rattle.table.specs.declared.Table.{Table}
 use Rattle.table.specs.Views.{jobAt, machineAt, poolAt, toldAt, flight, withJob, withMachine, withPool}
 use Rattle.table.specs.Pools.{enter, lowest, returned}
-use Rattle.table.specs.Messages.{push, send, RoomFor}
+use Rattle.table.specs.Messages.{push, send}
+use Rattle.table.specs.Needs.{RoomFor}
 use Rattle.table.specs.Parts.{moved, placed, priced, reserve, release, waiting, reserves, message, FISH, REQ, AUTH, DENIED, OBSOLETE, SCHEDULE, ACK}
 use Rattle.table.specs.Parts.{NOWORK, RESULT, OPEN, PRICED}
 use Rattle.table.proofs.Messages.{flight-push}

@@ -15,7 +15,8 @@ use Rattle.lists.proofs.Count.{count, count-delete, Every, every-delete, every-
 use Rattle.table.specs.declared.Message.{Message}
 use Rattle.table.specs.declared.Table.{Table}
 use Rattle.table.specs.Views.{noMessage, machineAt, messageAt, flight, withMessages}
-use Rattle.table.specs.Messages.{push, removeAt, send, RoomFor}
+use Rattle.table.specs.Messages.{push, removeAt, send}
+use Rattle.table.specs.Needs.{RoomFor}
 use Rattle.table.proofs.Views.{Sized, length-flight}
 use Rattle.table.proofs.Messages.{flight-push, flight-removeAt, message-flight}
 

@@ -8,7 +8,7 @@ use Rattle.table.specs.declared.Machine.{Machine}
 use Rattle.table.specs.declared.Table.{Table}
 use Rattle.table.specs.Views.{jobAt, machineAt, poolAt, toldAt, flight, withJob, withMachine, withPool}
 use Rattle.table.specs.Pools.{enter, returned}
-use Rattle.table.specs.Messages.{RoomFor}
+use Rattle.table.specs.Needs.{RoomFor}
 use Rattle.table.specs.Parts.{release}
 use Rattle.table.proofs.Views.{Sized, views, sized-job, sized-machine, sized-pool, machine-same, machine-other, part-machine, machine-pool}
 use Rattle.protocol_preservation.proofs.Sizes.{sized-enter}

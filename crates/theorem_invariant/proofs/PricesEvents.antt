@@ -14,7 +14,8 @@ use Rattle.table.specs.declared.Machine.{Machine}
 use Rattle.table.specs.declared.Message.{Message}
 use Rattle.table.specs.declared.Table.{Table}
 use Rattle.table.specs.Views.{bondAt, jobAt, machineAt, poolAt, flight, withJob, withMachine, withPool}
-use Rattle.table.specs.Messages.{notTo, notFrom, send, RoomFor}
+use Rattle.table.specs.Messages.{notTo, notFrom, send}
+use Rattle.table.specs.Needs.{RoomFor}
 use Rattle.table.specs.Parts.{opened, running, message, result, PRICED}
 use Rattle.table.proofs.Views.{views}
 use Rattle.event_admit_deliver_die.specs.AdmitDeliverDie.{admitted, died}

@@ -16,7 +16,8 @@ use Rattle.table.specs.declared.Message.{Message}
 use Rattle.table.specs.declared.Table.{Table}
 use Rattle.table.specs.Views.{bondAt, jobAt, machineAt, poolAt, toldAt, messageAt, flight, withJob, withMachine, withPool, withMessages}
 use Rattle.table.specs.Pools.{enter, lowest, returned}
-use Rattle.table.specs.Messages.{removeAt, send, RoomFor}
+use Rattle.table.specs.Messages.{removeAt, send}
+use Rattle.table.specs.Needs.{RoomFor}
 use Rattle.table.specs.Parts.{moved, placed, priced, reserve, release, waiting, reserves, message, REQ, AUTH, DENIED, OBSOLETE, SCHEDULE, ACK, NOWORK}
 use Rattle.table.specs.Parts.{RESULT, OPEN, PRICED}
 use Rattle.table.proofs.Views.{Sized, views, job-same, job-other, flight-job, bond-messages}

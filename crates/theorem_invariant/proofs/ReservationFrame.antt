@@ -9,7 +9,8 @@ use Rattle.lists.proofs.Count.{ind, count, count-append}
 use Rattle.table.specs.declared.Message.{Message}
 use Rattle.table.specs.declared.Table.{Table}
 use Rattle.table.specs.Views.{machineAt, messageAt, flight}
-use Rattle.table.specs.Messages.{removeAt, send, RoomFor}
+use Rattle.table.specs.Messages.{removeAt, send}
+use Rattle.table.specs.Needs.{RoomFor}
 use Rattle.table.specs.Parts.{reserves, REQ}
 use Rattle.table.proofs.Views.{Sized, views}
 use Rattle.theorem_invariant.proofs.State.{ReservationMatched, about}

@@ -13,7 +13,8 @@ use Rattle.table.specs.declared.Machine.{Machine}
 use Rattle.table.specs.declared.Message.{Message}
 use Rattle.table.specs.declared.Table.{Table}
 use Rattle.table.specs.Views.{noMessage, bondAt, jobAt, machineAt, poolAt, flight, withMachine, withPool}
-use Rattle.table.specs.Messages.{send, RoomFor}
+use Rattle.table.specs.Messages.{send}
+use Rattle.table.specs.Needs.{RoomFor}
 use Rattle.table.specs.Parts.{running, waiting, message, result, FISH, ACK, RESULT}
 use Rattle.table.proofs.Views.{views, pool-machine, flight-machine, flight-pool}
 use Rattle.event_admit_deliver_die.specs.AdmitDeliverDie.{admitted}

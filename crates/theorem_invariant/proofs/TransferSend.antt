@@ -10,7 +10,8 @@ use lib.Dec.{eqb}
 use Rattle.table.specs.declared.Message.{Message}
 use Rattle.table.specs.declared.Table.{Table}
 use Rattle.table.specs.Views.{noMessage, jobAt, machineAt, poolAt, messageAt, flight, withMessages}
-use Rattle.table.specs.Messages.{removeAt, send, RoomFor}
+use Rattle.table.specs.Messages.{removeAt, send}
+use Rattle.table.specs.Needs.{RoomFor}
 use Rattle.table.specs.Parts.{ACK, RESULT, OPEN}
 use Rattle.table.proofs.Views.{Sized, views}
 use Rattle.validity_message.specs.Message.{toRoot}

@@ -14,7 +14,8 @@ use Rattle.table.specs.declared.Message.{Message}
 use Rattle.table.specs.declared.Table.{Table}
 use Rattle.table.specs.Views.{noMachine, bondAt, jobAt, machineAt, poolAt, flight, withJob, withMachine, withPool}
 use Rattle.table.specs.Pools.{enter}
-use Rattle.table.specs.Messages.{notTo, send, RoomFor}
+use Rattle.table.specs.Messages.{notTo, send}
+use Rattle.table.specs.Needs.{RoomFor}
 use Rattle.table.specs.Parts.{opened, running, waiting, message, result, FISH}
 use Rattle.table.proofs.Views.{views, machine-same, machine-other, machine-pool, flight-job}
 use Rattle.event_admit_deliver_die.specs.AdmitDeliverDie.{admitted, died}

@@ -13,7 +13,8 @@ use Rattle.table.specs.declared.Machine.{Machine}
 use Rattle.table.specs.declared.Message.{Message}
 use Rattle.table.specs.declared.Table.{Table}
 use Rattle.table.specs.Views.{noMachine, jobAt, machineAt, toldAt, messageAt, flight, withJob, withMessages}
-use Rattle.table.specs.Messages.{removeAt, send, RoomFor}
+use Rattle.table.specs.Messages.{removeAt, send}
+use Rattle.table.specs.Needs.{RoomFor}
 use Rattle.table.specs.Parts.{reserve, release, running, waiting, message}
 use Rattle.table.proofs.Views.{Sized, job-same, job-other, machine-job, told-job, told-messages, job-messages, machine-messages}
 use Rattle.protocol_preservation.proofs.Facts.{Facts}

@@ -10,17 +10,17 @@ use Rattle.book.proofs.bond.Statement.{statement}
 use Rattle.book.proofs.bond.Tie as tie
 
 below : (c : tie.Then1) → c .before .before .before .args .i < entryCount (now (c .before .before .before .args .s))
-below c = rw (c .before .entries .ensures) at (c .if1 .taken)
+below c = rw (c .before .entry-count .ensures) at (c .if1 .taken)
 
 term-bond-at-requires : tie.Need-term-bond-at-requires
-term-bond-at-requires c κs = let b = below c in let k = counted _ _ b in let e = c .before .entries .ensures in
+term-bond-at-requires c κs = let b = below c in let k = counted _ _ b in let e = c .before .entry-count .ensures in
     (omega arith, (omega arith, omega arith))
 
 returns : tie.Need-returns
-returns c = c .term-bond-at .ensures ∙ bond-counted _ _ _ (c .before .before .entries .ensures) (below (c .before))
+returns c = c .term-bond-at .ensures ∙ bond-counted _ _ _ (c .before .before .entry-count .ensures) (below (c .before))
 
 returns-2 : tie.Need-returns-2
-returns-2 c = c .bond-in .ensures ∙ bond-past _ _ (rw (c .before .before .entries .ensures) at (c .before .if1 .left))
+returns-2 c = c .bond-in .ensures ∙ bond-past _ _ (rw (c .before .before .entry-count .ensures) at (c .before .if1 .left))
 
 pub bond-spec : {M : Type 1} → statement M
 bond-spec =

@@ -27,7 +27,7 @@ below : (c : tie.In-loop Inv-loop μ-loop) → c .before .loop .i < entryCount (
 below c = omega (arith, c .before .loop .inv .0)
 
 loop-holds : tie.Need-loop-holds Inv-loop μ-loop
-loop-holds c = (c .before .entries .ensures, search tests, c .no-bonds .ensures ∙ tabulate-none _ 64 noBond)
+loop-holds c = (c .before .entry-count .ensures, search tests, c .no-bonds .ensures ∙ tabulate-none _ 64 noBond)
 
 term-bond-at-requires : tie.Need-term-bond-at-requires Inv-loop μ-loop
 term-bond-at-requires c κs =

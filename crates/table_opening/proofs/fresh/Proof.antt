@@ -13,20 +13,20 @@ with-machines-requires : tie.Need-with-machines-requires
 with-machines-requires c κs =
     omega (
       arith,
-      c .before .before .before .before .machines .ensures,
+      c .before .before .before .before .machine-count .ensures,
       machine-count-most (c .before .before .before .before .before .before .args .s .now),
     )
 
 returns : tie.Need-returns
 unfolding freshOf
 returns c =
-    let m = c .before .before .before .before .before .machines in
+    let m = c .before .before .before .before .before .machine-count in
     rw (
       c .with-machines .ensures,
       c .before .blank .ensures,
       c .before .before .machine .ensures,
       c .before .before .before .bonds .ensures,
-      c .before .before .before .before .entries .ensures,
+      c .before .before .before .before .entry-count .ensures,
       m .ensures,
     )
     (alive-first _ _ _ _ (machine-count-most (c .before .before .before .before .before .before .before .args .s .now)))
