@@ -11,8 +11,12 @@ use Rattle.dispatcher.specs.Step.{answerOf, wellFormed}
 use Rattle.dispatcher.proofs.number.Statement.{statement}
 use Rattle.dispatcher.proofs.number.Tie as tie
 
+-- the second test asks whether the event is well formed, and past it the event is
+asked : (c : tie.After-well-formed) → wellFormed (c .before .before .before .before .before .before .args .bytes .now) ≡ c .well-formed .result
+asked c = wellFormed-is _ (c .before .before .before .before .if1 .left) ∙ sym (c .well-formed .ensures)
+
 fits : (c : tie.Else2) → wellFormed (c .before .before .before .before .before .before .before .args .bytes .now) ≡ true
-fits c = wellFormed-is _ (c .before .before .before .before .before .if1 .left) ∙ sym (c .before .well-formed .ensures) ∙ not-false _ (c .if2 .left)
+fits c = asked (c .before) ∙ not-false _ (c .if2 .left)
 
 returns : tie.Need-returns
 unfolding answerOf
@@ -20,8 +24,7 @@ returns c = rw (wellFormed-short _ (c .if1 .taken))
 
 returns-2 : tie.Need-returns-2
 unfolding answerOf
-returns-2 c = rw (wellFormed-is (c .before .before .before .before .before .before .before .args .bytes .now)
-    (c .before .before .before .before .before .if1 .left) ∙ sym (c .before .well-formed .ensures) ∙ not-true _ (c .if2 .taken))
+returns-2 c = rw (asked (c .before) ∙ not-true _ (c .if2 .taken))
 
 returns-3 : tie.Need-returns-3
 unfolding answerOf

@@ -20,26 +20,35 @@ returns c =
     (p, (q, front-reported (a .book .now) (a .events .now) (a .out .now) _ _ p q))
 
 put-book-refused-requires : tie.Need-put-book-refused-requires
-put-book-refused-requires c κs = (
-  omega arith,
-  omega (arith, verdict-small (c .before .before .before .before .before .before .before .args .book .now), c .before .before .verdict .ensures),
-)
+put-book-refused-requires c κs =
+    let judged = c .before .before in
+    let start = judged .before .before .before .before .before in (
+      omega arith,
+      omega (arith, verdict-small (start .args .book .now), judged .verdict .ensures),
+    )
 
 returns-2 : tie.Need-returns-2
 returns-2 c =
-    let a = c .before .before .before .before .before .before .before .before .before .before .args in
-    let v = c .before .before .before .before .before .verdict in
-    let w = refused-written (a .book .now) (a .events .now) (v .result) (v .ensures) (c .before .before .before .before .if2 .taken)
-    (c .before .before .put-book-refused .ensures) in
-    let h = c .before .before .before .before .before .before .if1 .left in
+    let written = c .before .before in
+    let refused = written .before .before in
+    let judged = refused .before in
+    let room = judged .before in
+    let start = room .before .before .before .before in
+    let a = start .args in
+    let v = judged .verdict in
+    let w = refused-written (a .book .now) (a .events .now) (v .result) (v .ensures) (refused .if2 .taken)
+    (written .put-book-refused .ensures) in
+    let h = room .if1 .left in
     let p = page-printed (a .book .now) (a .events .now) (a .out .now) h _ _ w in
     let q = page-buffer (a .book .now) (a .events .now) (a .out .now) h _ _ w in
     (p, (q, front-reported (a .book .now) (a .events .now) (a .out .now) _ _ p q))
 
 put-run-requires : tie.Need-put-run-requires
 put-run-requires c κs =
-    let a = c .before .before .before .before .before .before .before .before .before .args in
-    let v = c .before .before .before .before .verdict in
+    let judged = c .before .before .before .before in
+    let start = judged .before .before .before .before .before in
+    let a = start .args in
+    let v = judged .verdict in
     let f = ap length (c .before .first-bytes .ensures) in (
       ap tableOk (c .before .before .fresh .ensures) ∙ fresh-passes (a .book .now) (omega (arith, v .ensures)),
       (omega (arith, f, length-take bytesMost (a .events .now)), omega arith),
@@ -47,13 +56,19 @@ put-run-requires c κs =
 
 returns-3 : tie.Need-returns-3
 returns-3 c =
-    let a = c .before .before .before .before .before .before .before .before .before .before .before .before .args in
-    let v = c .before .before .before .before .before .before .before .verdict in
-    let t = c .before .before .before .before .before .fresh in
-    let f = c .before .before .before .before .first-bytes in
+    let written = c .before .before in
+    let cut = written .before .before in
+    let opened = cut .before in
+    let judged = opened .before .before in
+    let room = judged .before in
+    let start = room .before .before .before .before in
+    let a = start .args in
+    let v = judged .verdict in
+    let t = opened .fresh in
+    let f = cut .first-bytes in
     let w = accepted-written (a .book .now) (a .events .now) (v .result) (v .ensures) (t .result) (f .result .now) (omega arith) (t .ensures)
-    (f .ensures) (c .before .before .put-run .ensures) in
-    let h = c .before .before .before .before .before .before .before .before .if1 .left in
+    (f .ensures) (written .put-run .ensures) in
+    let h = room .if1 .left in
     let p = page-printed (a .book .now) (a .events .now) (a .out .now) h _ _ w in
     let q = page-buffer (a .book .now) (a .events .now) (a .out .now) h _ _ w in
     (p, (q, front-reported (a .book .now) (a .events .now) (a .out .now) _ _ p q))

@@ -11,16 +11,19 @@ use Rattle.page.proofs.page_in.Tie as tie
 
 part-out-end : tie.Need-part-out-end
 part-out-end c =
-    let a = c .before .before .before .before .before .before .before .args in
-    omega (arith, printed-fits (a .book .now) (a .events .now) (a .out .now), ap (λ (p : Printed). p .length) (c .before .before .page .ensures .0))
+    let printed = c .before .before in
+    let start = printed .before .before .before .before .before in
+    let a = start .args in
+    omega (arith, printed-fits (a .book .now) (a .events .now) (a .out .now), ap (λ (p : Printed). p .length) (printed .page .ensures .0))
 
 returns : tie.Need-returns
 returns c =
-    let s = c .before .before .before .before .before .before .before .before in
+    let printed = c .before .before .before in
+    let s = printed .before .before .before .before .before in
     let book = s .args .book .now in
     let events = s .args .events .now in
     let out = s .args .out .now in
-    let e = c .before .before .before .page .ensures in
+    let e = printed .page .ensures in
     let n = ap (λ (p : Printed). p .length) (e .0) ∙ printed-length book events out (s .pre) in
     page-part book events out (s .pre) _ _ (sub-zero _ ∙ n) (e .1 .0)
 

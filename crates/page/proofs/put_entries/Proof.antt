@@ -50,9 +50,10 @@ identifier-is c = c .identifier-at .ensures ∙ identifier-below _ _ (below (c .
 put-entry-requires : tie.Need-put-entry-requires Inv-loop μ-loop
 unfolding jobAt
 put-entry-requires c κs =
-    let s = c .before .before .before .before .before .before .before .before in
+    let turn = c .before .before .before .before in
+    let s = turn .before .before .before .before in
     let a = s .args in
-    let l = c .before .before .before .before .loop in
+    let l = turn .loop in
     let z = passed-sized (a .t2) (long (a .t2) _ (s .good .1 .0)) (s .pre .0) in
     let n = counts.entry-count-most (a .book .now) in
     let i = ap length (identifier-is c) in (
@@ -63,11 +64,13 @@ put-entry-requires c κs =
 loop-again : tie.Need-loop-again Inv-loop μ-loop
 unfolding jobAt
 loop-again c =
-    let s = c .before .before .before .before .before .before .before .before .before .before .before in
+    let written = c .before .before in
+    let i = written .before in
+    let turn = i .before .before .before .before in
+    let s = turn .before .before .before .before in
     let a = s .args in
-    let l = c .before .before .before .before .before .before .before .loop in
-    let w = c .before .before .put-entry in
-    let i = c .before .before .before in
+    let l = turn .loop in
+    let w = written .put-entry in
     let z = passed-sized (a .t2) (long (a .t2) _ (s .good .1 .0)) (s .pre .0) in
     let n = counts.entry-count-most (a .book .now) in (
       omega arith,

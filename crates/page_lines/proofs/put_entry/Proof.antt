@@ -7,18 +7,24 @@ use Rattle.page_lines.proofs.put_entry.Tie as tie
 
 returns : tie.Need-returns
 returns c =
-    let a = c .before .before .before .before .before .before .before .before .args in
-    rw (← entry-none (a .identifier .now) (a .v) (omega arith)) (c .before .before .put-not-admitted .ensures)
+    let written = c .before .before in
+    let start = written .before .before .before .before .before .before in
+    let a = start .args in
+    rw (← entry-none (a .identifier .now) (a .v) (omega arith)) (written .put-not-admitted .ensures)
 
 returns-2 : tie.Need-returns-2
 returns-2 c =
-    let a = c .before .before .before .before .before .before .before .before .before .before .before .args in
-    rw (← entry-open (a .identifier .now) (a .v) (λ e. omega arith) (omega arith)) (c .before .before .put-open .ensures)
+    let written = c .before .before in
+    let start = written .before .before .before .before .before .before .before .before .before in
+    let a = start .args in
+    rw (← entry-open (a .identifier .now) (a .v) (λ e. omega arith) (omega arith)) (written .put-open .ensures)
 
 returns-3 : tie.Need-returns-3
 returns-3 c =
-    let a = c .before .before .before .before .before .before .before .before .before .before .before .args in
-    rw (← entry-priced (a .identifier .now) (a .v) (λ e. omega arith) (λ e. omega arith)) (c .before .before .put-priced .ensures)
+    let written = c .before .before in
+    let start = written .before .before .before .before .before .before .before .before .before in
+    let a = start .args in
+    rw (← entry-priced (a .identifier .now) (a .v) (λ e. omega arith) (λ e. omega arith)) (written .put-priced .ensures)
 
 pub put-entry-spec : {M : Type 1} → statement M
 put-entry-spec =

@@ -12,18 +12,22 @@ put-decimal-requires : tie.Need-put-decimal-requires
 put-decimal-requires c κs = omega (arith, five-digits (c .before .before .before .before .before .before .before .args .place))
 
 put-line-end-requires : tie.Need-put-line-end-requires
-put-line-end-requires c κs = (
-  omega (arith, five-digits (c .before .before .before .before .before .before .before .before .before .before .before .before .args .place)),
-  c .before .before .before .before .before .before .before .before .before .before .before .before .pre .1,
-)
+put-line-end-requires c κs =
+    let decimal = c .before .before .before .before .before in
+    let start = decimal .before .before .before .before .before .before .before in (
+      omega (arith, five-digits (start .args .place)),
+      start .pre .1,
+    )
 
 returns : tie.Need-returns
 unfolding eventRefusedLine
 returns c =
-    let s = c .before .before .before .before .before .before .before .before .before .before .before .before .before .before .before in
+    let end = c .before .before in
+    let decimal = end .before .before .before .before .before in
+    let word = decimal .before .before .before .before in
+    let s = word .before .before .before .before in
     let n = event-most (s .args .place) (s .args .n) (s .pre .1) in
-    then-two (c .before .before .before .before .before .before .before .before .before .before .before .put .ensures)
-    (c .before .before .before .before .before .before .before .put-decimal .ensures) (c .before .before .put-line-end .ensures) (omega arith)
+    then-two (word .put .ensures) (decimal .put-decimal .ensures) (end .put-line-end .ensures) (omega arith)
 
 pub put-event-refused-spec : {M : Type 1} → statement M
 put-event-refused-spec =

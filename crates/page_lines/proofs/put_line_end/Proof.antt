@@ -10,27 +10,24 @@ use Rattle.page_lines.proofs.put_line_end.Tie as tie
 
 put-decimal-requires : tie.Need-put-decimal-requires
 put-decimal-requires c κs =
-    omega (
-      arith,
-      two-digits (c .before .before .before .before .before .before .before .args .n)
-          (c .before .before .before .before .before .before .before .pre .1),
-    )
+    let start = c .before .before .before .before .before .before .before in
+    omega (arith, two-digits (start .args .n) (start .pre .1))
 
 put-requires-2 : tie.Need-put-requires-2
 put-requires-2 c κs =
-    omega (
-      arith,
-      two-digits (c .before .before .before .before .before .before .before .before .before .before .before .before .args .n)
-          (c .before .before .before .before .before .before .before .before .before .before .before .before .pre .1),
-    )
+    let decimal = c .before .before .before .before .before in
+    let start = decimal .before .before .before .before .before .before .before in
+    omega (arith, two-digits (start .args .n) (start .pre .1))
 
 returns : tie.Need-returns
 unfolding lineEnd
 returns c =
-    let s = c .before .before .before .before .before .before .before .before .before .before .before .before .before .before .before in
+    let end = c .before .before in
+    let decimal = end .before .before .before .before .before in
+    let words = decimal .before .before .before .before in
+    let s = words .before .before .before .before in
     let n = line-end-most (s .args .words .now) (s .args .n) (s .pre .1) in
-    then-two (c .before .before .before .before .before .before .before .before .before .before .before .put .ensures)
-    (c .before .before .before .before .before .before .before .put-decimal .ensures) (c .before .before .put2 .ensures) (omega arith)
+    then-two (words .put .ensures) (decimal .put-decimal .ensures) (end .put2 .ensures) (omega arith)
 
 pub put-line-end-spec : {M : Type 1} → statement M
 put-line-end-spec =

@@ -10,9 +10,11 @@ use Rattle.page_lines.proofs.put_not_admitted.Tie as tie
 returns : tie.Need-returns
 unfolding notAdmittedLine
 returns c =
-    let s = c .before .before .before .before .before .before .before .before .before .before .before in
+    let end = c .before .before in
+    let identifier = end .before .before .before .before .before in
+    let s = identifier .before .before .before .before in
     let n = not-admitted-most (s .args .identifier .now) in
-    then (c .before .before .before .before .before .before .before .put .ensures) (c .before .before .put2 .ensures) (omega arith)
+    then (identifier .put .ensures) (end .put2 .ensures) (omega arith)
 
 pub put-not-admitted-spec : {M : Type 1} → statement M
 put-not-admitted-spec =

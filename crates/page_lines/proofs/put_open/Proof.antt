@@ -10,9 +10,11 @@ use Rattle.page_lines.proofs.put_open.Tie as tie
 returns : tie.Need-returns
 unfolding openLine
 returns c =
-    let s = c .before .before .before .before .before .before .before .before .before .before .before in
+    let end = c .before .before in
+    let identifier = end .before .before .before .before .before in
+    let s = identifier .before .before .before .before in
     let n = open-most (s .args .identifier .now) (s .args .replica) (s .pre .1) in
-    then (c .before .before .before .before .before .before .before .put .ensures) (c .before .before .put-line-end .ensures) (omega arith)
+    then (identifier .put .ensures) (end .put-line-end .ensures) (omega arith)
 
 pub put-open-spec : {M : Type 1} → statement M
 put-open-spec =

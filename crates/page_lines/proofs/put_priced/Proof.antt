@@ -11,27 +11,27 @@ use Rattle.page_lines.proofs.put_priced.Statement.{statement}
 use Rattle.page_lines.proofs.put_priced.Tie as tie
 
 put-line-end-requires : tie.Need-put-line-end-requires
-put-line-end-requires c κs = (
-  omega (
-    arith,
-    length-hex (c .before .before .before .before .before .before .before .before .before .before .before .before .before .before .before .before
-        .before .args .price),
-  ),
-  c .before .before .before .before .before .before .before .before .before .before .before .before .before .before .before .before .before .pre .1,
-)
+put-line-end-requires c κs =
+    let hex = c .before .before .before .before .before in
+    let priced = hex .before .before .before .before in
+    let start = priced .before .before .before .before .before .before .before .before in (
+      omega (arith, length-hex (start .args .price)),
+      start .pre .1,
+    )
 
 returns : tie.Need-returns
 unfolding pricedLine
 returns c =
-    let s =
-    c .before .before .before .before .before .before .before .before .before .before .before .before .before .before .before .before .before .before
-    .before .before in
+    let end = c .before .before in
+    let hex = end .before .before .before .before .before in
+    let priced = hex .before .before .before .before in
+    let identifier = priced .before .before .before .before .before in
+    let s = identifier .before .before .before .before in
     let n = priced-most (s .args .identifier .now) (s .args .price) (s .args .replica) (s .pre .1) in
     then-two (then
-    (c .before .before .before .before .before .before .before .before .before .before .before .before .before .before .before .before .put .ensures)
-    (c .before .before .before .before .before .before .before .before .before .before .before .put2 .ensures)
+    (identifier .put .ensures) (priced .put2 .ensures)
     (omega (arith, length-append (s .args .identifier .now) (ascii " priced "))))
-    (c .before .before .before .before .before .before .before .put-hex .ensures) (c .before .before .put-line-end .ensures) (omega arith)
+    (hex .put-hex .ensures) (end .put-line-end .ensures) (omega arith)
 
 pub put-priced-spec : {M : Type 1} → statement M
 put-priced-spec =

@@ -11,9 +11,12 @@ returns-2 : tie.Need-returns-2
 returns-2 c = buffer-refused _ _ _ (c .before .before .open .ensures) (c .before .if1 .left) (c .if2 .taken)
 
 returns-3 : tie.Need-returns-3
-returns-3 c = opened _ _ _ (c .before .before .before .before .before .before .before .open .ensures) _
-    (c .before .before .before .before .before .before .if1 .left) (c .before .before .before .before .before .if2 .left)
-    (c .before .before .encode .ensures)
+returns-3 c =
+    let encoded = c .before .before in
+    let fits = encoded .before .before .before in
+    let accepted = fits .before in
+    let judged = accepted .before in
+    opened _ _ _ (judged .open .ensures) _ (accepted .if1 .left) (fits .if2 .left) (encoded .encode .ensures)
 
 pub open-spec : {M : Type 1} → statement M
 open-spec =
