@@ -14,12 +14,22 @@ returns c = rw (c .no-work .ensures, ne-eqb _ 0 (c .before .if1 .taken))
 returns-2 : tie.Need-returns-2
 unfolding onFish parts
 returns-2 c =
-    rw (c .no-work2 .ensures, ← c .before .before .lowest .ensures, eq-eqb _ 0 (c .before .before .before .if1 .left), le-leb 64 _ (c .before .if2 .taken))
+    rw (
+      c .no-work2 .ensures,
+      ← c .before .before .lowest .ensures,
+      eq-eqb _ 0 (c .before .before .before .if1 .left),
+      le-leb 64 _ (c .before .if2 .taken),
+    )
 
 returns-3 : tie.Need-returns-3
 unfolding onFish parts
 returns-3 c =
-    rw (c .grant .ensures, ← c .before .before .lowest .ensures, eq-eqb _ 0 (c .before .before .before .if1 .left), lt-leb 64 _ (c .before .if2 .left))
+    rw (
+      c .grant .ensures,
+      ← c .before .before .lowest .ensures,
+      eq-eqb _ 0 (c .before .before .before .if1 .left),
+      lt-leb 64 _ (c .before .if2 .left),
+    )
 
 pub on-fish-spec : {M : Type 1} → statement M
 on-fish-spec =

@@ -11,7 +11,15 @@ returns c = rw (ne-eqb _ _ (c .if1 .taken))
 
 returns-2 : tie.Need-returns-2
 unfolding hasForm
-returns-2 c = rw (eq-eqb _ _ (c .before .before .before .before .before .before .if1 .left), c .before .before .before .before .all-in .ensures, c .before .before .all-in2 .ensures, c .all-in3 .ensures)
+returns-2 c =
+    let nine = c .before .before in
+    let letters = nine .before .before in
+    rw (
+      eq-eqb _ _ (letters .before .before .if1 .left),
+      letters .all-in .ensures,
+      nine .all-in2 .ensures,
+      c .all-in3 .ensures,
+    )
 
 pub has-form-spec : {M : Type 1} → statement M
 has-form-spec =
