@@ -11,10 +11,12 @@ use Rattle.event_admit_deliver_die.proofs.delivered.Tie as tie
 
 handle-requires : tie.Need-handle-requires
 unfolding removeAt parts
-handle-requires c κs = (
-  record { free = rw (c .remove-at .ensures) (search tests) },
-  c .before .before .before .before .pre .0 .messages (c .before .before .before .oldest .result) (search tests),
-)
+handle-requires c κs =
+    let found = c .before .before .before in
+    let pre = found .before .pre in (
+      record { free = rw (c .remove-at .ensures) (search tests) },
+      pre .0 .messages (found .oldest .result) (rw (found .oldest .ensures) (pre .1)),
+    )
 
 returns : tie.Need-returns
 unfolding delivered parts
