@@ -3,10 +3,8 @@
 use libc::STDERR_FILENO;
 use libc::STDOUT_FILENO;
 ghost use mathlib.Core.Path.{_≡_};
-ghost use Prim.Native.Nat.{_≤_};
-ghost use lib.ListN.{length};
 ghost use Rattle.io.specs.Counts.{Counts};
-ghost use Rattle.page.specs.Page.{pageOf, longest};
+ghost use Rattle.page.specs.Page.{pageOf};
 
 // Says on standard error what was not read of a file.
 fn complain(name: &[u8], why: &[u8]) {
