@@ -8,11 +8,11 @@ use Rattle.book_term.proofs.read.Tie as tie
 
 returns : tie.Need-returns
 unfolding termOf
-returns c = rw (ne-eqb _ 19 (c .if1 .taken))
+returns c = rw (ne-eqb _ _ (c .if1 .taken))
 
 returns-2 : tie.Need-returns-2
 unfolding termOf
-returns-2 c = rw (eq-eqb _ 19 (c .before .before .if1 .left), ne-eqb _ 0 (c .if2 .taken))
+returns-2 c = rw (eq-eqb _ _ (c .before .before .if1 .left), ne-eqb _ _ (c .if2 .taken))
 
 returns-3 : tie.Need-returns-3
 unfolding termOf ofBits
@@ -22,8 +22,8 @@ returns-3 c =
       c .from-fields .ensures,
       c .before .u64-at2 .ensures,
       c .before .before .u64-at .ensures,
-      eq-eqb _ 19 (past .before .before .if1 .left),
-      eq-eqb _ 0 (past .if2 .left),
+      eq-eqb _ _ (past .before .before .if1 .left),
+      eq-eqb _ _ (past .if2 .left),
     )
 
 pub read-spec : {M : Type 1} → statement M

@@ -9,15 +9,15 @@ use Rattle.event_admit_deliver_die.proofs.die_number.Tie as tie
 
 returns : tie.Need-returns
 unfolding dieOf parts
-returns c = rw (eq-eqb _ 0 (c .if1 .taken))
+returns c = rw (eq-eqb _ _ (c .if1 .taken))
 
 returns-2 : tie.Need-returns-2
 unfolding dieOf parts
-returns-2 c = rw (ne-eqb _ 0 (c .before .before .before .before .if1 .left), ne-eqb _ 1 (c .if2 .taken))
+returns-2 c = rw (ne-eqb _ _ (c .before .before .before .before .if1 .left), ne-eqb _ _ (c .if2 .taken))
 
 returns-3 : tie.Need-returns-3
 unfolding dieOf parts
-returns-3 c = rw (ne-eqb _ 0 (c .before .before .before .before .if1 .left), eq-eqb _ 1 (c .if2 .left))
+returns-3 c = rw (ne-eqb _ _ (c .before .before .before .before .if1 .left), eq-eqb _ _ (c .if2 .left))
 
 pub die-number-spec : {M : Type 1} → statement M
 die-number-spec = tie.close (tie.spec returns (λ c. search needs) (λ c. search needs) returns-2 returns-3)

@@ -9,20 +9,20 @@ use Rattle.event_notice.proofs.notice_number.Tie as tie
 
 returns : tie.Need-returns
 unfolding noticeOf parts
-returns c = rw (ne-eqb _ 1 (c .if1 .taken))
+returns c = rw (ne-eqb _ _ (c .if1 .taken))
 
 returns-2 : tie.Need-returns-2
 unfolding noticeOf parts
-returns-2 c = rw (eq-eqb _ 1 (c .before .before .before .if1 .left), eq-eqb _ 1 (c .if2 .taken))
+returns-2 c = rw (eq-eqb _ _ (c .before .before .before .if1 .left), eq-eqb _ _ (c .if2 .taken))
 
 returns-3 : tie.Need-returns-3
 unfolding noticeOf parts
 returns-3 c =
     rw (
       ← c .before .told-at .ensures,
-      eq-eqb _ 1 (c .before .before .before .before .before .if1 .left),
-      ne-eqb _ 1 (c .before .before .if2 .left),
-      ne-eqb _ 0 (c .if3 .taken),
+      eq-eqb _ _ (c .before .before .before .before .before .if1 .left),
+      ne-eqb _ _ (c .before .before .if2 .left),
+      ne-eqb _ _ (c .if3 .taken),
     )
 
 returns-4 : tie.Need-returns-4
@@ -30,9 +30,9 @@ unfolding noticeOf parts
 returns-4 c =
     rw (
       ← c .before .told-at .ensures,
-      eq-eqb _ 1 (c .before .before .before .before .before .if1 .left),
-      ne-eqb _ 1 (c .before .before .if2 .left),
-      eq-eqb _ 0 (c .if3 .left),
+      eq-eqb _ _ (c .before .before .before .before .before .if1 .left),
+      ne-eqb _ _ (c .before .before .if2 .left),
+      eq-eqb _ _ (c .if3 .left),
     )
 
 pub notice-number-spec : {M : Type 1} → statement M

@@ -9,7 +9,7 @@ use Rattle.handler_victim.proofs.on_fish.Tie as tie
 
 returns : tie.Need-returns
 unfolding onFish parts
-returns c = rw (c .no-work .ensures, ne-eqb _ 0 (c .before .if1 .taken))
+returns c = rw (c .no-work .ensures, ne-eqb _ _ (c .before .if1 .taken))
 
 returns-2 : tie.Need-returns-2
 unfolding onFish parts
@@ -17,8 +17,8 @@ returns-2 c =
     rw (
       c .no-work2 .ensures,
       ← c .before .before .lowest .ensures,
-      eq-eqb _ 0 (c .before .before .before .if1 .left),
-      le-leb 64 _ (c .before .if2 .taken),
+      eq-eqb _ _ (c .before .before .before .if1 .left),
+      le-leb _ _ (c .before .if2 .taken),
     )
 
 returns-3 : tie.Need-returns-3
@@ -27,8 +27,8 @@ returns-3 c =
     rw (
       c .grant .ensures,
       ← c .before .before .lowest .ensures,
-      eq-eqb _ 0 (c .before .before .before .if1 .left),
-      lt-leb 64 _ (c .before .if2 .left),
+      eq-eqb _ _ (c .before .before .before .if1 .left),
+      lt-leb _ _ (c .before .if2 .left),
     )
 
 pub on-fish-spec : {M : Type 1} → statement M
