@@ -2,11 +2,14 @@
 //! in which all of them take turns, so that what else the machine does falls on all alike.
 
 mod events;
+mod identifiers;
 mod prices;
 mod timing;
 
 fn main() {
-    println!("### Prices\n");
+    println!("### Identifiers\n");
+    identifiers::table();
+    println!("\n### Prices\n");
     prices::table();
     println!("\n### Events, by how many there are\n");
     let sixteen: Vec<_> = [1_000, 5_000, 20_000].iter().map(|&count| (16, count)).collect();

@@ -60,7 +60,7 @@ pub fn check_character(characters: &[u8]) -> u8 {
 
 #[cfg(test)]
 mod tests {
-    use super::verdict;
+    use super::{value, verdict};
 
     #[test]
     fn examples() {
@@ -69,6 +69,18 @@ mod tests {
         }
         assert_eq!(verdict(b"ZZ0000000017"), 5);
         assert_eq!(verdict(b"ZZ000000016 "), 4);
+    }
+
+    /// Request 2.8: "code - 48 - 7 × (code / 65) [..] over them it is document 01's value and takes each of
+    /// 0 to 35 exactly once". That A is 10 up to Z which is 35 is also how Rust reads digits to the base 36.
+    #[test]
+    fn values() {
+        let allowed: Vec<u8> = (b'0'..=b'9').chain(b'A'..=b'Z').collect();
+        let arithmetic: Vec<u32> = allowed.iter().map(|&code| u32::from(code - 48 - 7 * (code / 65))).collect();
+        let digits: Vec<u32> = allowed.iter().filter_map(|&code| char::from(code).to_digit(36)).collect();
+        assert_eq!(arithmetic, digits);
+        assert_eq!(arithmetic, allowed.iter().map(|&code| value(code)).collect::<Vec<u32>>());
+        assert_eq!(arithmetic, (0..36).collect::<Vec<u32>>());
     }
 
     #[test]

@@ -1,39 +1,95 @@
--- One more character to the right: what `allIn` says of the rest. Assumes nothing.
-use mathlib.Core.Path.{_≡_, refl, sym}
-use mathlib.Core.Bool.{Bool, true, false, _&&_, true≢false}
+-- The form of an identifier, character by character: what `allIn` says of the rest, and of a part of the identifier. Assumes nothing.
+use mathlib.Core.Path.{_≡_, refl, sym, ap, _∙_}
+use mathlib.Core.Bool.{true, false, _&&_, and-true, and-assoc}
 use mathlib.Core.List.{List, [], _∷_}
-use Prim.Native.Nat.{ℕ, _+_, _<_, _≤_}
+use Prim.Native.Nat.{ℕ, zero, suc, _+_, _-_, _<_, _≤_}
+use native.Mathlib.Nat.{le-of-suc-le-suc, not-suc-le-zero}
 use native.Mathlib.Numerals.{add-one}
-use borrow.Author.Tests.{le-leb, lt-leb, eqb-true}
-use lib.ListN.{length, drop, getD}
-use lib.Seq.{drop-cons}
-use lib.Dec.{eqb}
+use native.Mathlib.Omega.{arith}
+use borrow.Author.Tests.{ltb-true, ltb-false, eqb-true, leb-true, le-leb}
+use lib.ListN.{length, take, drop, getD, length-drop}
+use lib.Seq.{drop-cons, getD-take, getD-drop, length-take-le}
+use lib.Dec.{leb, ltb, eqb}
+use Rattle.lists.proofs.Cases.{byBool, and-left, and-right}
 use Rattle.isin.specs.Isin.{valueOf, allIn, hasForm}
+use Rattle.isin.specs.Values.{isLetter, isDigit, isAllowed}
+use Rattle.isin.proofs.Characters.{within, letter-value, digit-value, allowed-value}
+
+-- ---- one more character to the right
 
 pub after : (s : List ℕ) (i : ℕ) → i < length s → drop i s ≡ getD s i 0 ∷ drop (i + 1) s
 after s i h = rw (add-one, drop-cons s i 0)
 
-pub inside : (lo hi b : ℕ) (bs : List ℕ) → lo ≤ valueOf b → valueOf b ≤ hi → allIn lo hi (b ∷ bs) ≡ allIn lo hi bs
+-- the first character, and the others
+first : (lo hi b : ℕ) (bs : List ℕ) → allIn lo hi (b ∷ bs) ≡ within lo hi b && allIn lo hi bs
 unfolding allIn
-inside lo hi b bs h k = simp (le-leb lo (valueOf b) h, le-leb (valueOf b) hi k)
+first lo hi b bs = sym (and-assoc (leb lo (valueOf b)) (leb (valueOf b) hi) (allIn lo hi bs))
 
-pub low : (lo hi b : ℕ) (bs : List ℕ) → valueOf b < lo → allIn lo hi (b ∷ bs) ≡ false
+pub inside : (b : ℕ) (bs : List ℕ) → isAllowed b ≡ true → allIn 0 35 (b ∷ bs) ≡ allIn 0 35 bs
+inside b bs e = rw (first 0 35 b bs, ← allowed-value b, e)
+
+pub outside : (b : ℕ) (bs : List ℕ) → isAllowed b ≡ false → allIn 0 35 (b ∷ bs) ≡ false
+outside b bs e = rw (first 0 35 b bs, ← allowed-value b, e)
+
+pub none : allIn 0 35 [] ≡ true
 unfolding allIn
-low lo hi b bs h = simp (lt-leb lo (valueOf b) h)
+none = refl
 
-pub high : (lo hi b : ℕ) (bs : List ℕ) → lo ≤ valueOf b → hi < valueOf b → allIn lo hi (b ∷ bs) ≡ false
+-- ---- the parts of two characters and of one
+
+pub two-letters : (s : List ℕ) → length s ≡ 12 → allIn 10 35 (take 2 s) ≡ isLetter (getD s 0 0) && isLetter (getD s 1 0)
 unfolding allIn
-high lo hi b bs h k = simp (le-leb lo (valueOf b) h, lt-leb (valueOf b) hi k)
+two-letters [] n = absurd (omega arith)
+two-letters (a ∷ []) n = absurd (omega arith)
+two-letters (a ∷ b ∷ s) n = rw (first 10 35 a (b ∷ []), first 10 35 b [], ← letter-value a, ← letter-value b, and-true)
 
-pub none : (lo hi : ℕ) → allIn lo hi [] ≡ true
+pub check-digit : (s : List ℕ) → length s ≡ 12 → allIn 0 9 (take 1 (drop 11 s)) ≡ isDigit (getD s 11 0)
 unfolding allIn
-none lo hi = refl
+check-digit s n = rw (drop-cons s 11 0 (omega arith), first 0 9 (getD s 11 0) [], ← digit-value (getD s 11 0), and-true)
 
--- what has the form has twelve characters
-pub twelve : (s : List ℕ) → hasForm s ≡ true → length s ≡ 12
+-- ---- what has the form
+
+-- each character of a part whose values end at 35 or before is allowed
+member : (lo hi : ℕ) → hi ≤ 35 → (s : List ℕ) (i : ℕ) → allIn lo hi s ≡ true → i < length s → isAllowed (getD s i 0) ≡ true
+unfolding allIn
+member lo hi k [] i e h = absurd (not-suc-le-zero h)
+member lo hi k (b ∷ bs) zero e h =
+    let v : valueOf b ≤ hi = leb-true _ _ (and-left (leb (valueOf b) hi) _ (and-right (leb lo (valueOf b)) _ e)) in
+    allowed-value b ∙ rw (le-leb 0 (valueOf b) (omega arith), le-leb (valueOf b) 35 (omega arith))
+member lo hi k (b ∷ bs) (suc i) e h =
+    member lo hi k bs i (and-right (leb (valueOf b) hi) _ (and-right (leb lo (valueOf b)) _ e)) (le-of-suc-le-suc h)
+
+part : (lo hi a n : ℕ) → hi ≤ 35 → (s : List ℕ) → allIn lo hi (take n (drop a s)) ≡ true → a + n ≤ length s
+    → (i : ℕ) → a ≤ i → i < a + n → isAllowed (getD s i 0) ≡ true
+part lo hi a n k s e l i h j =
+    let d = length-drop a s in
+    let t : length (take n (drop a s)) ≡ n = length-take-le n (drop a s) (omega arith) in
+    let x : a + (i - a) ≡ i = omega arith in
+    let g : getD (take n (drop a s)) (i - a) 0 ≡ getD s i 0 =
+    getD-take n (drop a s) (i - a) 0 (omega arith) ∙ getD-drop a s (i - a) 0 ∙ ap (λ (m : ℕ). getD s m 0) x in
+    rw g at (member lo hi k (take n (drop a s)) (i - a) e (omega arith))
+
+-- it has twelve characters, and each is allowed
+pub record Formed (s : List ℕ) : Type 0 where
+  pub twelve : length s ≡ 12
+  pub allowed : (i : ℕ) → i < 12 → isAllowed (getD s i 0) ≡ true
+
+pub formed : (s : List ℕ) → hasForm s ≡ true → Formed s
 unfolding hasForm
-twelve s e = go (eqb (length s) 12) _ _ _ (eqb-true (length s) 12) e
-  where
-    go : (a b c d : Bool) → (a ≡ true → length s ≡ 12) → a && b && c && d ≡ true → length s ≡ 12
-    go true b c d f h = f refl
-    go false b c d f h = absurd (true≢false (sym h))
+formed s e =
+    let n = eqb (length s) 12 in
+    let two = allIn 10 35 (take 2 s) in
+    let nine = allIn 0 35 (take 9 (drop 2 s)) in
+    let f : n && two && nine ≡ true = and-left (n && two && nine) _ e in
+    let g : n && two ≡ true = and-left (n && two) nine f in
+    let w : length s ≡ 12 = eqb-true _ _ (and-left n two g) in
+    let letters = part 10 35 0 2 (omega arith) s (and-right n two g) (omega arith) in
+    let middle = part 0 35 2 9 (omega arith) s (and-right (n && two) nine f) (omega arith) in
+    let last = part 0 9 11 1 (omega arith) s (and-right (n && two && nine) _ e) (omega arith) in
+    record {
+      twelve = w;
+      allowed = λ i h.
+          byBool (ltb i 2) (λ p. letters i (omega arith) (ltb-true i 2 p))
+          (λ p. byBool (ltb i 11) (λ q. middle i (ltb-false i 2 p) (ltb-true i 11 q))
+          (λ q. last i (ltb-false i 11 q) h));
+    }

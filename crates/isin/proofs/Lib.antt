@@ -1,2 +1,4 @@
+pub mod Characters
 pub mod Digits
 pub mod Form
+pub mod Values

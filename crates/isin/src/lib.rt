@@ -1,30 +1,43 @@
 // ISO 6166 identifiers: their form and their check digit. No country list is consulted.
 ghost use mathlib.Core.Path.{_≡_};
-ghost use Prim.Native.Nat.{_+_, _≤_, _<_};
-ghost use lib.ListN.{length};
+ghost use mathlib.Core.Bool.{true};
+ghost use Prim.Native.Nat.{ℕ, _+_, _≤_, _<_};
+ghost use lib.ListN.{length, getD};
 ghost use Rattle.isin.specs.Isin.{valueOf, weight, sumOf, allIn, hasForm, verdictOf};
+ghost use Rattle.isin.specs.Values.{isLetter, isDigit, isAllowed, byArithmetic};
 
 // A digit doubled, the digits of the doubled number added.
 const DOUBLED: [u8; 10] = [0, 2, 4, 6, 8, 1, 3, 5, 7, 9];
 
-// The value of a character: a digit stands for itself, A is 10 up to Z which is 35. Any other character is 36.
-fn value(b: u8) -> u8
-    ensures { λ r. ⌜ r ≡ valueOf b ⌝ }
-    ensures { λ r. ⌜ r < 37 ⌝ }
+// Whether b is one of A to Z.
+fn is_letter(b: u8) -> bool
+    ensures { λ r. ⌜ r ≡ isLetter b ⌝ }
 {
-    if b < 48 {
-        return 36;
-    }
-    if b < 58 {
-        return b - 48;
-    }
-    if b < 65 {
-        return 36;
-    }
-    if b < 91 {
-        return b - 55;
-    }
-    36
+    (65 <= b) & (b <= 90)
+}
+
+// Whether b is one of 0 to 9.
+fn is_digit(b: u8) -> bool
+    ensures { λ r. ⌜ r ≡ isDigit b ⌝ }
+{
+    (48 <= b) & (b <= 57)
+}
+
+// Whether b is an allowed character.
+fn is_allowed(b: u8) -> bool
+    ensures { λ r. ⌜ r ≡ isAllowed b ⌝ }
+{
+    is_letter(b) | is_digit(b)
+}
+
+// The value of an allowed character, with no branch: a digit stands for itself, A is 10 up to Z which is 35.
+fn value(b: u8) -> u8
+    requires { ⌜ isAllowed b ≡ true ⌝ }
+    ensures { λ r. ⌜ r ≡ valueOf b ⌝ }
+    ensures { λ r. ⌜ r ≡ byArithmetic b ⌝ }
+    ensures { λ r. ⌜ r < 36 ⌝ }
+{
+    b - 48 - 7 * (b / 65)
 }
 
 // What a digit adds to the sum.
@@ -39,6 +52,7 @@ fn weighed(d: u8, twice: bool) -> u8
 // The sum over the expanded digits of s, from the right end.
 fn sum(s: &[u8]) -> u32
     requires { ⌜ length (now s) ≤ 11 ⌝ }
+    requires { ⌜ ((i : ℕ) → i < length (now s) → isAllowed (getD (now s) i 0) ≡ true) ⌝ }
     ensures { λ r. ⌜ r ≡ sumOf (now (s .entry)) ⌝ }
     ensures { λ r. ⌜ r < 1000 ⌝ }
 {
@@ -59,17 +73,13 @@ fn sum(s: &[u8]) -> u32
     t
 }
 
-// Whether the value of each character of s lies from lo to hi.
-fn all_in(s: &[u8], lo: u8, hi: u8) -> bool
-    ensures { λ r. ⌜ r ≡ allIn lo hi (now (s .entry)) ⌝ }
+// Whether each character of s is allowed.
+fn all_allowed(s: &[u8]) -> bool
+    ensures { λ r. ⌜ r ≡ allIn 0 35 (now (s .entry)) ⌝ }
 {
     let mut i = 0;
     while i < s.len() {
-        let v = value(s[i]);
-        if v < lo {
-            return false;
-        }
-        if hi < v {
+        if !is_allowed(s[i]) {
             return false;
         }
         i += 1;
@@ -84,7 +94,7 @@ fn has_form(id: &[u8]) -> bool
     if id.len() != 12 {
         return false;
     }
-    all_in(&id[0..2], 10, 35) & all_in(&id[2..11], 0, 35) & all_in(&id[11..12], 0, 9)
+    is_letter(id[0]) & is_letter(id[1]) & all_allowed(&id[2..11]) & is_digit(id[11])
 }
 
 // 0 for an identifier that passes, 4 for its form, 5 for its check digit.

@@ -28,13 +28,14 @@ struct Section {
     share: u64,
 }
 
-const SECTIONS: [Section; 6] = [
+const SECTIONS: [Section; 7] = [
     Section { name: "identifiers", case: cases::identifier, share: 500 },
     Section { name: "terms", case: cases::term, share: 500 },
     Section { name: "prices", case: cases::price, share: 200 },
     Section { name: "books", case: cases::book, share: 20 },
     Section { name: "runs", case: cases::run, share: 1000 },
     Section { name: "damaged", case: cases::damaged, share: 100 },
+    Section { name: "characters", case: cases::characters, share: 50 },
 ];
 
 /// From this count on, all of `Coverage::missing` must have been reached.

@@ -1,7 +1,8 @@
 -- `isin::has_form` meets its contract: the length, and then the three parts. Assumes nothing.
 use borrow.Author.Tests.{eq-eqb, ne-eqb}
-use Rattle.isin.specs.Isin.{hasForm}
 use borrow.Author.Needs.{needs}
+use Rattle.isin.specs.Isin.{hasForm}
+use Rattle.isin.proofs.Form.{two-letters, check-digit}
 use Rattle.isin.proofs.has_form.Statement.{statement}
 use Rattle.isin.proofs.has_form.Tie as tie
 
@@ -13,12 +14,17 @@ returns-2 : tie.Need-returns-2
 unfolding hasForm
 returns-2 c =
     let nine = c .before .before in
-    let letters = nine .before .before in
+    let second = nine .before .before in
+    let first = second .before .before in
+    let n = first .before .before .if1 .left in
     rw (
-      eq-eqb _ _ (letters .before .before .if1 .left),
-      letters .all-in .ensures,
-      nine .all-in2 .ensures,
-      c .all-in3 .ensures,
+      eq-eqb _ _ n,
+      two-letters _ n,
+      check-digit _ n,
+      first .is-letter .ensures,
+      second .is-letter2 .ensures,
+      nine .all-allowed .ensures,
+      c .is-digit .ensures,
     )
 
 pub has-form-spec : {M : Type 1} → statement M
@@ -27,15 +33,13 @@ has-form-spec =
     (tie.spec
     returns
     (λ c. search needs)
-    (λ c. search needs)
+    (λ c κs. search needs)
     (λ c. search needs)
     (λ c κs. search needs)
     (λ c. search needs)
     (λ c. search needs)
     (λ c. search needs)
     (λ c κs. search needs)
-    (λ c. search needs)
-    (λ c. search needs)
     (λ c. search needs)
     (λ c κs. search needs)
     returns-2)

@@ -1,12 +1,14 @@
 -- `isin::verdict` meets its contract: what has the form has twelve characters, of which the first eleven are summed. Assumes nothing.
 use borrow.Author.Needs.{needs}
+use native.Mathlib.Omega.{arith}
 use borrow.Author.Tests.{eq-eqb, ne-eqb, not-true, not-false}
 use mathlib.Core.Path.{_≡_, sym, _∙_}
 use mathlib.Core.Bool.{true}
 use denote.Ref.{now}
-use lib.ListN.{length}
+use lib.ListN.{length, take}
+use lib.Seq.{length-take-le, getD-take}
 use Rattle.isin.specs.Isin.{hasForm, total, verdictOf}
-use Rattle.isin.proofs.Form.{twelve}
+use Rattle.isin.proofs.Form.{Formed, formed}
 use Rattle.isin.proofs.verdict.Statement.{statement}
 use Rattle.isin.proofs.verdict.Tie as tie
 
@@ -14,21 +16,29 @@ use Rattle.isin.proofs.verdict.Tie as tie
 past : (c : tie.Else1) → hasForm (now (c .before .before .before .args .id)) ≡ true
 past c = sym (c .before .has-form .ensures) ∙ not-false _ (c .if1 .left)
 
-long : (c : tie.Else1) → length (now (c .before .before .before .args .id)) ≡ 12
-long c = twelve _ (past c)
+form : (c : tie.Else1) → Formed (now (c .before .before .before .args .id))
+form c = formed _ (past c)
 
 returns : tie.Need-returns
 unfolding verdictOf
 returns c = rw (sym (c .before .has-form .ensures) ∙ not-true _ (c .if1 .taken))
 
 part-sum-end : tie.Need-part-sum-end
-part-sum-end c = let n = long c in search needs
+part-sum-end c = let n = form c .twelve in search needs
 
 sum-requires : tie.Need-sum-requires
-sum-requires c κs = let n = long (c .before) in search needs
+sum-requires c κs =
+    let f = form (c .before) in
+    let n = f .twelve in
+    let s = now (c .before .before .before .before .args .id) in
+    let m : length (take 11 s) ≡ 11 = length-take-le 11 s (omega arith) in
+    (omega arith, λ i h. rw (getD-take 11 s i 0 (omega arith)) (f .allowed i (omega arith)))
 
 shared-slice-read-value : tie.Need-shared-slice-read-value
-shared-slice-read-value c = let n = long (c .before .before .before) in search needs
+shared-slice-read-value c = let n = form (c .before .before .before) .twelve in search needs
+
+value-requires : tie.Need-value-requires
+value-requires c κs = form (c .before .before .before) .allowed 11 (omega arith)
 
 returns-2 : tie.Need-returns-2
 unfolding verdictOf total
@@ -61,7 +71,7 @@ verdict-spec =
     part-sum-end
     sum-requires
     shared-slice-read-value
-    (λ c κs. search needs)
+    value-requires
     (λ c. search needs)
     (λ c. search needs)
     returns-2
