@@ -1,13 +1,13 @@
 -- The form of an identifier, character by character: what `allIn` says of the rest, and of a part of the identifier. Assumes nothing.
-use mathlib.Core.Path.{_≡_, refl, sym, ap, _∙_}
-use mathlib.Core.Bool.{true, false, _&&_, and-true, and-assoc}
+use mathlib.Core.Path.{_≡_, sym, ap, _∙_}
+use mathlib.Core.Bool.{Bool, true, _&&_, and-true, and-assoc}
 use mathlib.Core.List.{List, [], _∷_}
 use Prim.Native.Nat.{ℕ, zero, suc, _+_, _-_, _<_, _≤_}
 use native.Mathlib.Nat.{le-of-suc-le-suc, not-suc-le-zero}
 use native.Mathlib.Numerals.{add-one}
 use native.Mathlib.Omega.{arith}
 use borrow.Author.Tests.{ltb-true, ltb-false, eqb-true, leb-true, le-leb}
-use lib.ListN.{length, take, drop, getD, length-drop}
+use lib.ListN.{length, take, drop, getD, length-drop, drop-of-length-le}
 use lib.Seq.{drop-cons, getD-take, getD-drop, length-take-le}
 use lib.Dec.{leb, ltb, eqb}
 use Rattle.lists.proofs.Cases.{byBool, and-left, and-right}
@@ -17,23 +17,19 @@ use Rattle.isin.proofs.Characters.{within, letter-value, digit-value, a
 
 -- ---- one more character to the right
 
-pub after : (s : List ℕ) (i : ℕ) → i < length s → drop i s ≡ getD s i 0 ∷ drop (i + 1) s
-after s i h = rw (add-one, drop-cons s i 0)
-
 -- the first character, and the others
 first : (lo hi b : ℕ) (bs : List ℕ) → allIn lo hi (b ∷ bs) ≡ within lo hi b && allIn lo hi bs
 unfolding allIn
 first lo hi b bs = sym (and-assoc (leb lo (valueOf b)) (leb (valueOf b) hi) (allIn lo hi bs))
 
-pub inside : (b : ℕ) (bs : List ℕ) → isAllowed b ≡ true → allIn 0 35 (b ∷ bs) ≡ allIn 0 35 bs
-inside b bs e = rw (first 0 35 b bs, ← allowed-value b, e)
+-- a is what is known of those before i
+module _ (s : List ℕ) (i : ℕ) (a : Bool) where
+  pub next : (b : Bool) → i < length s → b ≡ isAllowed (getD s i 0) → a && allIn 0 35 (drop i s) ≡ a && b && allIn 0 35 (drop (i + 1) s)
+  next b h e = rw (add-one, drop-cons s i 0, first 0 35, ← allowed-value (getD s i 0), ← e, and-assoc)
 
-pub outside : (b : ℕ) (bs : List ℕ) → isAllowed b ≡ false → allIn 0 35 (b ∷ bs) ≡ false
-outside b bs e = rw (first 0 35 b bs, ← allowed-value b, e)
-
-pub none : allIn 0 35 [] ≡ true
-unfolding allIn
-none = refl
+  pub ends : length s ≤ i → a && allIn 0 35 (drop i s) ≡ a
+  unfolding allIn
+  ends h = rw (drop-of-length-le s {i = i} h, and-true)
 
 -- ---- the parts of two characters and of one
 

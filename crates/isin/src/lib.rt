@@ -73,18 +73,17 @@ fn sum(s: &[u8]) -> u32
     t
 }
 
-// Whether each character of s is allowed.
+// Whether each character of s is allowed. The loop does not end early, so that the compiler can test several characters at once.
 fn all_allowed(s: &[u8]) -> bool
     ensures { λ r. ⌜ r ≡ allIn 0 35 (now (s .entry)) ⌝ }
 {
     let mut i = 0;
+    let mut allowed = true;
     while i < s.len() {
-        if !is_allowed(s[i]) {
-            return false;
-        }
+        allowed = allowed & is_allowed(s[i]);
         i += 1;
     }
-    true
+    allowed
 }
 
 // Two letters, nine letters or digits, one digit.
