@@ -22,6 +22,11 @@ first : (lo hi b : ℕ) (bs : List ℕ) → allIn lo hi (b ∷ bs) ≡ within lo
 unfolding allIn
 first lo hi b bs = sym (and-assoc (leb lo (valueOf b)) (leb (valueOf b) hi) (allIn lo hi bs))
 
+-- one character
+pub one : (lo hi b : ℕ) → allIn lo hi (b ∷ []) ≡ within lo hi b
+unfolding allIn
+one lo hi b = first lo hi b [] ∙ and-true (within lo hi b)
+
 -- a is what is known of those before i
 module _ (s : List ℕ) (i : ℕ) (a : Bool) where
   pub next : (b : Bool) → i < length s → b ≡ isAllowed (getD s i 0) → a && allIn 0 35 (drop i s) ≡ a && b && allIn 0 35 (drop (i + 1) s)
@@ -34,14 +39,12 @@ module _ (s : List ℕ) (i : ℕ) (a : Bool) where
 -- ---- the parts of two characters and of one
 
 pub two-letters : (s : List ℕ) → length s ≡ 12 → allIn 10 35 (take 2 s) ≡ isLetter (getD s 0 0) && isLetter (getD s 1 0)
-unfolding allIn
 two-letters [] n = absurd (omega arith)
 two-letters (a ∷ []) n = absurd (omega arith)
-two-letters (a ∷ b ∷ s) n = rw (first 10 35 a (b ∷ []), first 10 35 b [], ← letter-value a, ← letter-value b, and-true)
+two-letters (a ∷ b ∷ s) n = rw (first 10 35 a (b ∷ []), one 10 35 b, ← letter-value a, ← letter-value b)
 
 pub check-digit : (s : List ℕ) → length s ≡ 12 → allIn 0 9 (take 1 (drop 11 s)) ≡ isDigit (getD s 11 0)
-unfolding allIn
-check-digit s n = rw (drop-cons s 11 0 (omega arith), first 0 9 (getD s 11 0) [], ← digit-value (getD s 11 0), and-true)
+check-digit s n = rw (drop-cons s 11 0 (omega arith), one 0 9 (getD s 11 0), ← digit-value (getD s 11 0))
 
 -- ---- what has the form
 

@@ -11,7 +11,8 @@ use Rattle.lists.proofs.Scans.{all-at}
 use Rattle.lists.proofs.Cases.{and-left, and-right}
 use Rattle.isin.specs.Isin.{valueOf}
 use Rattle.isin.specs.Values.{isAllowed, byArithmetic, Values}
-use Rattle.isin.proofs.Characters.{byAllowed}
+use Rattle.isin.proofs.Characters.{byAllowed, allowed-value}
+use Rattle.isin.proofs.Form.{one}
 
 -- the characters in the order of their values: 0 to 9, then A to Z
 abbrev character : ℕ → ℕ
@@ -52,6 +53,7 @@ same b e = let k = known b e in ap byArithmetic (k .itself) ∙ at (valueOf b) (
 
 pub values : Values
 values = record {
+  form = λ b. allowed-value b ∙ sym (one 0 35 b);
   same = same;
   most = λ b e. rw (same b e) (known b e .below);
   once = λ v h. record {

@@ -3,8 +3,9 @@
 use Prim.Native.Nat.{ℕ, _-_, _*_, _/_, _<_}
 use mathlib.Core.Path.{_≡_}
 use mathlib.Core.Bool.{Bool, true, _&&_, _||_}
+use mathlib.Core.List.{[], _∷_}
 use lib.Dec.{leb}
-use Rattle.isin.specs.Isin.{valueOf}
+use Rattle.isin.specs.Isin.{valueOf, allIn}
 
 -- "A to Z" are the bytes 65 to 90
 abbrev pub isLetter : ℕ → Bool
@@ -33,6 +34,8 @@ pub record ExactlyOne (v : ℕ) : Type 0 where
 
 -- "for the 36 allowed characters. Show that over them it is document 01's value and takes each of 0 to 35 exactly once"
 pub record Values : Type 0 where
+  -- the allowed characters are those that the form takes among the nine,
+  pub form : (b : ℕ) → isAllowed b ≡ allIn 0 35 (b ∷ [])
   -- over them it is document 01's value,
   pub same : (b : ℕ) → isAllowed b ≡ true → byArithmetic b ≡ valueOf b
   -- none has a value above 35,
