@@ -11,8 +11,8 @@ extern "C" {
 
 type Identifier = [u8; 12];
 
-/// More than a processor remembers the branches of.
-const COUNT: usize = 20_000;
+/// With a fifth as many, a processor has learnt after a few rounds which way the branches of each go.
+const COUNT: usize = 100_000;
 
 const DIGITS: &[u8] = b"0123456789";
 const LETTERS: &[u8] = b"ABCDEFGHIJKLMNOPQRSTUVWXYZ";
@@ -57,7 +57,7 @@ fn row(name: &str, number: u8, one: impl Fn(&mut Numbers) -> Identifier) {
     for identifier in &identifiers {
         assert_eq!((proved(identifier), rust(identifier)), (number, number));
     }
-    let times = best(200, COUNT, &mut [round(&identifiers, proved), round(&identifiers, rust)]);
+    let times = best(50, COUNT, &mut [round(&identifiers, proved), round(&identifiers, rust)]);
     println!("| {name} | {number} | {:.1} | {:.1} | {:.2} |", times[0], times[1], times[0] / times[1]);
 }
 

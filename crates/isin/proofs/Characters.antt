@@ -26,7 +26,7 @@ classOf b =
     no-digit : 58 ≤ b → isDigit b ≡ false
     no-digit h = rw (le-leb 48 b (omega arith), lt-leb b 57 h)
 
--- an allowed character is one of the first two
+-- an allowed character is a letter or a digit
 pub byAllowed : {P : Type 0} (b : ℕ) → isAllowed b ≡ true
     → (65 ≤ b → b ≤ 90 → valueOf b ≡ b - 55 → P) → (48 ≤ b → b ≤ 57 → valueOf b ≡ b - 48 → P) → P
 byAllowed {P} b e p q = go (classOf b)
@@ -36,7 +36,7 @@ byAllowed {P} b e p q = go (classOf b)
     go (digit l h v) = q l h v
     go (neither f g v) = absurd (true≢false (sym e ∙ rw (f, g)))
 
--- ---- each test on bytes is one of the value, as `allIn` asks it
+-- ---- each test of a byte is the test of its value that `allIn` makes
 
 abbrev pub within : ℕ → ℕ → ℕ → Bool
 within lo hi b = leb lo (valueOf b) && leb (valueOf b) hi

@@ -1,4 +1,4 @@
--- The form of an identifier, character by character: what `allIn` says of the rest, and of a part of the identifier. Assumes nothing.
+-- The form of an identifier: `allIn` character by character, its parts of two and of one, and what it says of each character. Assumes nothing.
 use mathlib.Core.Path.{_≡_, sym, ap, _∙_}
 use mathlib.Core.Bool.{Bool, true, _&&_, and-true, and-assoc}
 use mathlib.Core.List.{List, [], _∷_}

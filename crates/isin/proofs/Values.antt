@@ -37,29 +37,29 @@ at v h =
     let e : isAllowed (character v) && eqb (byArithmetic (character v)) v ≡ true = all-at right 36 v computed h in
     record { allowed = and-left _ _ e; value = eqb-true _ _ (and-right (isAllowed (character v)) _ e) }
 
--- an allowed character has a value below 36, and is the one of that value
-record Known (b : ℕ) : Type 0 where
+-- an allowed character is the one of its value, which is below 36
+record Inverse (b : ℕ) : Type 0 where
   below : valueOf b < 36
-  itself : b ≡ character (valueOf b)
+  back : b ≡ character (valueOf b)
 
-known : (b : ℕ) → isAllowed b ≡ true → Known b
-known b e =
+inverse : (b : ℕ) → isAllowed b ≡ true → Inverse b
+inverse b e =
     byAllowed b e
-    (λ l h v. record { below = rw v (omega arith); itself = rw (v, le-ltb (b - 55) 10 (omega arith)) (omega arith) })
-    (λ l h v. record { below = rw v (omega arith); itself = rw (v, lt-ltb (b - 48) 10 (omega arith)) (omega arith) })
+    (λ l h v. record { below = rw v (omega arith); back = rw (v, le-ltb (b - 55) 10 (omega arith)) (omega arith) })
+    (λ l h v. record { below = rw v (omega arith); back = rw (v, lt-ltb (b - 48) 10 (omega arith)) (omega arith) })
 
 same : (b : ℕ) → isAllowed b ≡ true → byArithmetic b ≡ valueOf b
-same b e = let k = known b e in ap byArithmetic (k .itself) ∙ at (valueOf b) (k .below) .value
+same b e = let k = inverse b e in ap byArithmetic (k .back) ∙ at (valueOf b) (k .below) .value
 
 pub values : Values
 values = record {
   form = λ b. allowed-value b ∙ sym (one 0 35 b);
   same = same;
-  most = λ b e. rw (same b e) (known b e .below);
+  most = λ b e. rw (same b e) (inverse b e .below);
   once = λ v h. record {
     character = character v;
     allowed = at v h .allowed;
     has = at v h .value;
-    only = λ b e f. known b e .itself ∙ ap character (sym (same b e) ∙ f);
+    only = λ b e f. inverse b e .back ∙ ap character (sym (same b e) ∙ f);
   };
 }

@@ -45,14 +45,14 @@ pub fn identifier(trial: &mut Trial, rng: &mut Rng) -> Outcome {
         2 => identifier = (0..rng.below(40)).map(|_| rng.byte()).collect(),
         _ => inputs::damage_identifier(rng, &mut identifier),
     }
-    verdict(trial, &identifier)?;
+    let number = verdict(trial, &identifier)?;
+    trial.coverage.identifiers[usize::from(number)] += 1;
     Ok(1)
 }
 
 /// The number of an identifier, on which both agree.
 fn verdict(trial: &mut Trial, identifier: &[u8]) -> Result<u8, String> {
     let number = isin::verdict(identifier);
-    trial.coverage.identifiers[usize::from(number)] += 1;
     same(&format!("identifier {identifier:02X?}"), trial.library.identifier(identifier), number)?;
     Ok(number)
 }
@@ -60,20 +60,23 @@ fn verdict(trial: &mut Trial, identifier: &[u8]) -> Result<u8, String> {
 /// Each byte at each place of an identifier, and where the form allows it also with the check digit that fits.
 pub fn characters(trial: &mut Trial, rng: &mut Rng) -> Outcome {
     let passing = inputs::identifier(rng);
-    let mut compared = 0;
+    let mut counts = [0; 6];
     for place in 0..passing.len() {
         for byte in 0..=u8::MAX {
             let mut identifier = passing.clone();
             identifier[place] = byte;
-            compared += 1;
-            if verdict(trial, &identifier)? == 5 {
+            let number = verdict(trial, &identifier)?;
+            counts[usize::from(number)] += 1;
+            if number == 5 {
                 identifier[11] = isin::check_character(&identifier[..11]);
-                verdict(trial, &identifier)?;
-                compared += 1;
+                counts[usize::from(verdict(trial, &identifier)?)] += 1;
             }
         }
     }
-    Ok(compared)
+    for (total, count) in trial.coverage.characters.iter_mut().zip(counts) {
+        *total += count;
+    }
+    Ok(counts.iter().sum())
 }
 
 pub fn term(trial: &mut Trial, rng: &mut Rng) -> Outcome {

@@ -64,6 +64,7 @@ impl Answers {
 pub struct Coverage {
     /// Cases of simple inputs by their number.
     pub identifiers: [u64; 23],
+    pub characters: [u64; 23],
     pub terms: [u64; 23],
     pub books: [u64; 23],
     pub opened: [u64; 23],
@@ -109,6 +110,7 @@ impl Coverage {
     pub fn print(&self) {
         for (name, counts) in [
             ("identifiers", &self.identifiers),
+            ("characters", &self.characters),
             ("terms", &self.terms),
             ("books", &self.books),
             ("opened", &self.opened),

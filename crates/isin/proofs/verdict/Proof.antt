@@ -1,4 +1,4 @@
--- `isin::verdict` meets its contract: what has the form has twelve characters, of which the first eleven are summed. Assumes nothing.
+-- `isin::verdict` meets its contract: what has the form has twelve allowed characters, of which the first eleven are summed. Assumes nothing.
 use borrow.Author.Needs.{needs}
 use native.Mathlib.Omega.{arith}
 use borrow.Author.Tests.{eq-eqb, ne-eqb, not-true, not-false}
