@@ -1,9 +1,9 @@
 -- A character is a letter, a digit or neither: what the tests on bytes say of it, and its value by document 01. Assumes nothing.
-use Prim.Native.Nat.{ℕ, _-_, _≤_}
+use Prim.Native.Nat.{ℕ, _-_, _<_, _≤_}
 use mathlib.Core.Path.{_≡_, sym, _∙_}
 use mathlib.Core.Bool.{Bool, true, false, _&&_, true≢false}
 use native.Mathlib.Omega.{arith}
-use borrow.Author.Tests.{ltb-true, ltb-false, le-leb, lt-leb}
+use borrow.Author.Tests.{ltb-true, ltb-false, leb-true, leb-false, le-leb, lt-leb}
 use lib.Dec.{leb, ltb}
 use Rattle.lists.proofs.Cases.{byBool}
 use Rattle.isin.specs.Isin.{valueOf}
@@ -49,13 +49,23 @@ letter-value b = go (classOf b)
     go (digit l h v) = rw (v, lt-leb 65 b (omega arith), lt-leb 10 (b - 48) (omega arith))
     go (neither e f v) = rw (v, e)
 
-pub digit-value : (b : ℕ) → isDigit b ≡ within 0 9 b
-digit-value b = rw (le-leb 0 (valueOf b) (omega arith)) (go (classOf b))
+one-digit : (b : ℕ) → isDigit b ≡ leb (valueOf b) 9
+one-digit b = go (classOf b)
   where
     go : Class b → isDigit b ≡ leb (valueOf b) 9
     go (letter l h v) = rw (v, le-leb 48 b (omega arith), lt-leb b 57 (omega arith), lt-leb (b - 55) 9 (omega arith))
     go (digit l h v) = rw (v, le-leb 48 b l, le-leb b 57 h, le-leb (b - 48) 9 (omega arith))
     go (neither e f v) = rw (v, f)
+
+pub digit-value : (b : ℕ) → isDigit b ≡ within 0 9 b
+digit-value b = rw (le-leb 0 (valueOf b) (omega arith)) (one-digit b)
+
+-- the value of a digit is one digit, and that of any other character two
+pub digit-below : (b : ℕ) → isDigit b ≡ true → valueOf b < 10
+digit-below b e = let h = leb-true (valueOf b) 9 (sym (one-digit b) ∙ e) in omega arith
+
+pub other-above : (b : ℕ) → isDigit b ≡ false → 10 ≤ valueOf b
+other-above b e = leb-false (valueOf b) 9 (sym (one-digit b) ∙ e)
 
 pub allowed-value : (b : ℕ) → isAllowed b ≡ within 0 35 b
 allowed-value b = rw (le-leb 0 (valueOf b) (omega arith)) (go (classOf b))

@@ -62,7 +62,7 @@ fn sum(s: &[u8]) -> u32
     while 0 < i {
         i -= 1;
         let v = value(s[i]);
-        if v < 10 {
+        if is_digit(s[i]) {
             t += weighed(v, twice) as u32;
             twice = !twice;
         } else {
