@@ -6,14 +6,14 @@ use mathlib.Core.Logic.{_≢_, _⊎_, ⊎-elim}
 use mathlib.Core.List.{List, []}
 use Prim.Native.Nat.{ℕ, suc, _+_, _*_, _≤_, _<_}
 use native.Mathlib.Omega.{arith}
-use borrow.Author.Tests.{ltb-true, ltb-false, leb-true, eqb-true, eqb-false, eq-eqb, ne-eqb, lt-ltb, le-ltb, not-false}
+use borrow.Author.Tests.{ltb-false, leb-true, eqb-true, eqb-false, eq-eqb, ne-eqb, lt-ltb, le-ltb, not-false}
 use lib.Dec.{leb, ltb, eqb}
 use lib.ListN.{length}
-use Rattle.lists.specs.Scan.{all, least}
+use Rattle.lists.specs.Scan.{all}
 use Rattle.lists.proofs.Cases.{byBool, byEq, and-left, and-right}
 use Rattle.endian.specs.Endian.{le16}
 use Rattle.lists.proofs.Scans.{all-at}
-use Rattle.lists.proofs.Count.{least-at, least-before}
+use Rattle.lists.proofs.Lowest.{lowest-none}
 use Rattle.isin.specs.Isin.{verdictOf}
 use Rattle.pricer.specs.Range.{inRange}
 use Rattle.book_term.specs.Term.{termOf, termNumber}
@@ -25,7 +25,7 @@ use Rattle.book.specs.Book.{bookVerdict}
 use Rattle.pricer.specs.Bonds.{noBond}
 use Rattle.book.specs.Parts.{IsSize, sizeAt, entryCount, identifierOf, identifierNumber, bondIn, termBondAt, bondOf}
 use Rattle.book.proofs.Rests.{same-itself}
-use Rattle.book.proofs.Faults.{isFaulty, differs}
+use Rattle.book.proofs.Faults.{differs}
 
 -- ---- the sizes
 
@@ -46,12 +46,28 @@ sizes m n e =
 
 -- ---- a choice that is 0 did not take an arm that is not
 
-no : (n : ℕ) → suc n ≡ 0 → ⊥
+pub no : (n : ℕ) → suc n ≡ 0 → ⊥
 no n e = omega arith
 
 past : (t : Bool) (n a : ℕ) → cond t (suc n) a ≡ 0 → (t ≡ false) × (a ≡ 0)
 past true n a e = absurd (no n e)
 past false n a e = (refl, e)
+
+-- of a book: 1, 2, 3, then x
+pub past-sizes : (a b c : Bool) (x : ℕ) → cond a 1 (cond (not b) 2 (cond (not c) 3 x)) ≡ 0 → (a ≡ false) × (b ≡ true) × (c ≡ true) × (x ≡ 0)
+past-sizes a b c x e =
+    let p = past a 0 _ e in
+    let q = past (not b) 1 _ (p .1) in
+    let r = past (not c) 2 _ (q .1) in
+    (p .0, not-false b (q .0), not-false c (r .0), r .1)
+
+-- of an entry: the identifier's v, 6, then x
+pub past-identifier : (v : ℕ) (t : Bool) (x : ℕ) → cond (not (eqb v 0)) v (cond t 6 x) ≡ 0 → (v ≡ 0) × (t ≡ false) × (x ≡ 0)
+past-identifier v t x e =
+    let a : eqb v 0 ≡ true = byBool (eqb v 0) (λ b. b) (λ b. let z : v ≡ 0 = rw b at e in absurd (eqb-false v 0 b z)) in
+    let f : cond t 6 x ≡ 0 = rw a at e in
+    let p = past t 5 x f in
+    (eqb-true v 0 a, p .0, p .1)
 
 -- ---- the book
 
@@ -63,29 +79,17 @@ pub record Accepted (s : List ℕ) : Type 0 where
 
 no-fault : (s : List ℕ) (n : ℕ) → lowestFault s n ≡ 0 → (i : ℕ) → i < n → faultAt s n i ≡ 0
 unfolding lowestFault lowestFaulty
-no-fault s n e i h =
-    let k = least (isFaulty s n) n in
-    byBool (ltb k n)
-    (λ b.
-    let f : faultAt s n k ≡ 0 = rw b at e in
-    let g : isFaulty s n k ≡ false = rw f in
-    absurd (true≢false (sym (least-at (isFaulty s n) n (ltb-true k n b)) ∙ g)))
-    (λ b.
-    let l : n ≤ k = ltb-false k n b in
-    let g : isFaulty s n i ≡ false = least-before (isFaulty s n) n i (omega arith) in
-    eqb-true (faultAt s n i) 0 (not-false _ g))
+no-fault s n e = lowest-none (faultAt s n) n e
 
 pub accepted : (s : List ℕ) → bookVerdict s ≡ 0 → Accepted s
 unfolding bookVerdict
 accepted s e =
-    let a = past (ltb (length s) 4) 0 _ e in
-    let b = past (not (sizesInRange (rawMachineCount s) (rawEntryCount s))) 1 _ (a .1) in
-    let c = past (not (eqb (length s) (4 + 31 * rawEntryCount s))) 2 _ (b .1) in
+    let p = past-sizes (ltb (length s) 4) (sizesInRange (rawMachineCount s) (rawEntryCount s)) (eqb (length s) (4 + 31 * rawEntryCount s)) _ e in
     record {
-      four = ltb-false _ _ (a .0);
-      sizes-in-range = sizes _ _ (not-false _ (b .0));
-      whole = eqb-true _ _ (not-false _ (c .0));
-      faultless = no-fault s (rawEntryCount s) (c .1);
+      four = ltb-false _ _ (p .0);
+      sizes-in-range = sizes _ _ (p .1);
+      whole = eqb-true _ _ (p .2);
+      faultless = no-fault s (rawEntryCount s) (p .3);
     }
 
 -- ---- an entry without fault
@@ -97,22 +101,19 @@ pub record Entry (s : List ℕ) (n i : ℕ) : Type 0 where
   pub in-range : inRange (termBondAt s n i) ≡ true
 
 -- what reads to no fault is the bond of the entry
-valid : (r : Reading) → termNumber r ≡ 0 → r ≡ Valid (bondIn r)
+pub valid : (r : Reading) → termNumber r ≡ 0 → r ≡ Valid (bondIn r)
 valid Faulty e = absurd (no 6 e)
 valid (Valid b) e = refl
 
 entry-of : (s : List ℕ) (n i : ℕ) → faultAt s n i ≡ 0 → Entry s n i
 unfolding faultAt repeated termBondAt
 entry-of s n i e =
-    let v = verdictOf (identifierAt s i) in
-    let a : eqb v 0 ≡ true = byBool (eqb v 0) (λ b. b) (λ b. let z : v ≡ 0 = rw b at e in absurd (eqb-false v 0 b z)) in
-    let f : cond (not (all (differs s i) i)) 6 (termNumber (termOf (termAt s n i))) ≡ 0 = rw a at e in
-    let g = past (not (all (differs s i) i)) 5 _ f in
-    let r : termOf (termAt s n i) ≡ Valid (bondIn (termOf (termAt s n i))) = valid (termOf (termAt s n i)) (g .1) in
+    let p = past-identifier (verdictOf (identifierAt s i)) (not (all (differs s i) i)) _ e in
+    let r : termOf (termAt s n i) ≡ Valid (bondIn (termOf (termAt s n i))) = valid (termOf (termAt s n i)) (p .2) in
     record {
-      passes = eqb-true v 0 a;
+      passes = p .0;
       new = λ k h q.
-          let d : differs s i k ≡ true = all-at (differs s i) i k (not-false _ (g .0)) h in
+          let d : differs s i k ≡ true = all-at (differs s i) i k (not-false _ (p .1)) h in
           let w : differs s i k ≡ false = rw q (ap not (same-itself (identifierAt s i))) in
           true≢false (sym d ∙ w);
       read = r;

@@ -1,16 +1,16 @@
 -- Entries in the code's words: the parts of the book that it takes, what comparing two of them says, and the cases of an entry's fault.
 -- Assumes nothing.
-use mathlib.Core.Path.{_≡_, ap}
+use mathlib.Core.Path.{_≡_}
+use mathlib.Core.Logic.{_≢_}
 use mathlib.Core.Bool.{Bool, true, false, not}
 use mathlib.Core.List.{List}
 use Prim.Native.Nat.{ℕ, _+_, _-_, _*_, _<_}
-use native.Mathlib.Nat.{le-refl}
 use native.Mathlib.Omega.{arith}
-use borrow.Author.Tests.{eq-eqb, ne-eqb, lt-ltb, le-ltb}
-use lib.Dec.{eqb}
+use borrow.Author.Tests.{eq-eqb, ne-eqb}
 use lib.ListN.{take, drop}
 use Rattle.lists.specs.Scan.{all, least}
-use Rattle.lists.proofs.Scans.{all-fail, least-found}
+use Rattle.lists.proofs.Scans.{all-fail}
+use Rattle.lists.proofs.Lowest.{marked, lowest-first, lowest-zero}
 use Rattle.isin.specs.Isin.{verdictOf}
 use Rattle.book_term.specs.Term.{termOf, termNumber}
 use Rattle.book.specs.Book.{identifierAt, termAt, sameBytes, repeated, faultAt, lowestFaulty, lowestFault}
@@ -73,16 +73,13 @@ module _ (s : List ℕ) (n i : ℕ) where
 -- ---- the lowest faulty entry
 
 abbrev pub isFaulty : List ℕ → ℕ → ℕ → Bool
-isFaulty s n i = not (eqb (faultAt s n i) 0)
+isFaulty s n = marked (faultAt s n)
 
 module _ (s : List ℕ) (n : ℕ) where
-  pub first-fault : (i : ℕ) → i < n → least (isFaulty s n) i ≡ i → (faultAt s n i ≡ 0 → ⊥) → faultAt s n i ≡ lowestFault s n
+  pub first-fault : (i : ℕ) → i < n → least (isFaulty s n) i ≡ i → faultAt s n i ≢ 0 → faultAt s n i ≡ lowestFault s n
   unfolding lowestFault lowestFaulty
-  first-fault i h e f =
-      let p : isFaulty s n i ≡ true = ap not (ne-eqb (faultAt s n i) 0 f) in
-      let q : least (isFaulty s n) n ≡ i = least-found (isFaulty s n) n i h e p in
-      rw (q, lt-ltb i n h)
+  first-fault = lowest-first (faultAt s n) n
 
   pub no-fault : least (isFaulty s n) n ≡ n → 0 ≡ lowestFault s n
   unfolding lowestFault lowestFaulty
-  no-fault e = rw (e, le-ltb n n (le-refl n))
+  no-fault = lowest-zero (faultAt s n) n

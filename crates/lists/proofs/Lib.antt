@@ -4,3 +4,4 @@ pub mod Scans
 pub mod Keeps
 pub mod Count
 pub mod Chains
+pub mod Lowest
