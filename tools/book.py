@@ -7,9 +7,9 @@
 It needs Python 3.10 or later, and its standard library only.
 
 The CSV has the header identifier,kind,periods,coupon,yield and then a row for each bond. The kind is zero or fixed, the
-periods are half-years, the coupon is a year's per 100 of face (empty or 0 for a zero), the yield is a year's as a fraction.
-Rates are decimal texts, read as Python's float() reads them, but without its underscores and digits of other scripts. A text of
-more than 4,000,000 bytes is not read.
+periods are half-years, the coupon is a year's per 100 of face (empty or 0 for a zero), the yield is a year's as a fraction,
+from -0.5 to 1. Rates are decimal texts, read as Python's float() reads them, but without its underscores and digits of other
+scripts. A text of more than 4,000,000 bytes is not read.
 
 A row whose first mark is # is a comment; the comment "# machines 4" states the machine count. Small and capital letters, a colon
 or an equals sign after the word, and the number in the next cell are read too ("#Machines: 4", "# machines,4"). Any other
@@ -23,7 +23,8 @@ more than 64 bonds none is looked at. --anyway writes the faulty book all the sa
 say: a kind is then a number from 0 to 255 too, and an identifier is filled with spaces or cut to 12 bytes.
 
 A rate that the rules accept may still be in the other unit. make writes the book and warns of a coupon above 0 and below 0.25,
-which may be meant as a fraction, and of a yield above 0.5, which may be meant in percent. It warns of a book without bonds too.
+which may be meant as a fraction, and of a yield below -0.01 or above 0.5, which may be meant in percent. It warns of a book
+without bonds too.
 
 show prints the CSV of a book, from which make makes the same bytes again where the book is accepted. A refused book may have
 bytes that a CSV does not hold, as a spare byte that is not 0.
@@ -48,6 +49,7 @@ COLUMNS = ["identifier", "kind", "periods", "coupon", "yield"]
 KINDS = {"zero": books.ZERO, "fixed": books.FIXED}
 MACHINES = 4  # where nothing else is stated
 LEAST_COUPON, MOST_YIELD = 0.25, 0.5  # beyond which a rate may be in the other unit
+DOUBTED_BELOW = -0.01  # below which a yield may be in percent: markets seldom go there
 OTHER_MARKS = {";": "semicolons", "\t": "tabs"}  # which part the cells of other files
 POINT = "decimals are written with a point"
 
@@ -175,7 +177,7 @@ class Row:
             percent = books.shifted(texts["coupon"], 2)
             text = f"{shown['coupon']} is taken as {shown['coupon']} per 100 of face; a coupon of {percent} percent is written {percent}"
             yield Fault(None, self.number, "coupon", text)
-        if MOST_YIELD < entry.ytm <= 1:
+        if books.LOWEST_YIELD <= entry.ytm < DOUBTED_BELOW or MOST_YIELD < entry.ytm <= books.HIGHEST_YIELD:
             percent, fraction = books.shifted(texts["yield"], 2), books.shifted(texts["yield"], -2)
             text = f"{shown['yield']} is taken as {percent} percent; a yield of {shown['yield']} percent is written {fraction}"
             yield Fault(None, self.number, "yield", text)
@@ -186,9 +188,9 @@ def rate_hint(column: str, text: str) -> str:
     if "," in text:
         return f"; {POINT}"
     number = text[:-1].rstrip()
-    if not text.endswith("%") or not re.fullmatch(r"[0-9]+(\.[0-9]+)?", number):
+    if not text.endswith("%") or not re.fullmatch(r"-?[0-9]+(\.[0-9]+)?", number):
         return ""
-    return f"; {desk.shortened(number)} percent is written {books.shifted(number, -2 if column == 'yield' else 0)}"
+    return books.percent_hint(column, number, float(number))
 
 
 def kind_of(text: str, anyway: bool) -> int:

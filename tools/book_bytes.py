@@ -1,4 +1,4 @@
-"""The bytes of a book, and document 01's rules for them. For the desk's tools and make_sample.py.
+"""The bytes of a book, and the rules of documents 01 and 02 for them. For the desk's tools and make_sample.py.
 
 It is not run by itself, and needs Python's standard library only. This is the one place where they read or write the bytes of
 a book. make_book_cases.py has functions of its own, so that what it decides is a test of these (test_desk.py).
@@ -18,6 +18,7 @@ SIZES = struct.Struct("<HH")  # machine count, entry count
 TERM = struct.Struct("<BBBdd")  # kind, periods, spare, coupon, yield
 MOST_BYTES = 4 + 31 * MOST_ENTRIES
 MOST_SIZE, MOST_BYTE = 0xFFFF, 0xFF  # that there is a place for
+LOWEST_YIELD, HIGHEST_YIELD = -0.5, 1.0  # "A yield now lies from -0.5 to 1, ends included" (document 02, 2.1)
 LETTERS, DIGITS = (string.ascii_uppercase, "A to Z"), (string.digits, "0 to 9")
 EITHER = (LETTERS[0] + DIGITS[0], "A to Z or 0 to 9")
 FORM = [LETTERS] * 2 + [EITHER] * 9 + [DIGITS]  # of an identifier: for each place the characters, and how they are called
@@ -134,9 +135,14 @@ def term_faults(entry: Entry, texts: dict[str, str]) -> collections.abc.Iterator
         yield "coupon", f"{shown['coupon']} is outside 0 to 100"
     elif entry.kind == ZERO and not is_bare(entry):
         yield "coupon", f"a zero has no coupon, and this is {shown['coupon']}"
-    if not 0 <= entry.ytm <= 1:
-        hint = f"; {shown['yield']} percent is written {shifted(texts['yield'], -2)}" if 1 < entry.ytm <= 100 else ""
-        yield "yield", f"{shown['yield']} is outside 0 to 1{hint}"
+    if not LOWEST_YIELD <= entry.ytm <= HIGHEST_YIELD:
+        yield "yield", f"{shown['yield']} is outside {LOWEST_YIELD:g} to {HIGHEST_YIELD:g}{percent_hint('yield', texts['yield'], entry.ytm)}"
+
+
+def percent_hint(column: str, text: str, number: float) -> str:
+    """How a percentage is written, where it is one that a rate may be."""
+    least, most, places = (100 * LOWEST_YIELD, 100 * HIGHEST_YIELD, -2) if column == "yield" else (0, 100, 0)
+    return f"; {desk.shortened(text)} percent is written {shifted(text, places)}" if least <= number <= most else ""
 
 
 def is_bare(entry: Entry) -> bool:

@@ -5,9 +5,9 @@ To run, at the root of the repository: /usr/bin/python3 tools/make_book_cases.py
 It needs Python's standard library only (last run with Python 3.11).
 
 The functions of the first part implement document 01's "The book", "The identifier" and "The price", and the rows Book and Lowest faulty
-entry of its table of refusals. They share nothing with the crates, nor with book_bytes.py of the desk's tools, which has the same rules:
-what they decide tests both (test_desk.py for the latter), and no reading of document 01 tests itself. Each case that is not random has
-its number stated beside it; the script fails where these functions have another.
+entry of its table of refusals, with the yields of document 02, 2.1. They share nothing with the crates, nor with book_bytes.py of the
+desk's tools, which has the same rules: what they decide tests both (test_desk.py for the latter), and no reading of the two documents
+tests itself. Each case that is not random has its number stated beside it; the script fails where these functions have another.
 
 The result depends on nothing else: the random choices have a fixed seed.
 """
@@ -23,7 +23,7 @@ MOST = 65536  # bytes that the program reads of a file
 NUMBERS = [0, 1, 2, 3, 4, 5, 6, 7]  # accepted, and the refusals of a book
 TOO_LARGE = 11  # the number of an entry number of n or more
 
-# Document 01.
+# Document 01, and of document 02 the range of a yield.
 
 FORM = re.compile(rb"[A-Z]{2}[A-Z0-9]{9}[0-9]")
 DOUBLED = [0, 2, 4, 6, 8, 1, 3, 5, 7, 9]
@@ -42,11 +42,11 @@ def identifier_fault(text):
 
 
 def is_term(text):
-    """A NaN fails each comparison, and negative zero equals 0."""
+    """A NaN fails each comparison, and negative zero equals 0. "A yield now lies from -0.5 to 1, ends included" (document 02, 2.1)."""
     kind, periods, spare, coupon, ytm = struct.unpack("<BBBdd", text)
     if kind not in (1, 2) or not 1 <= periods <= 240 or spare != 0:
         return False
-    if not (0 <= coupon <= 100 and 0 <= ytm <= 1):
+    if not (0 <= coupon <= 100 and -0.5 <= ytm <= 1):
         return False
     return kind == 2 or text[3:11] == bytes(8)
 
@@ -144,6 +144,8 @@ BAD_DIGIT = b"ZZ0000000017"
 BAD_TERM = term(periods=241)
 NAN = math.nan
 TINY = math.nextafter(0.0, 1.0)
+TOO_LOW = math.nextafter(-0.5, -1.0)
+LOW_TERM = term(ytm=TOO_LOW)
 
 FORM_FAULTS = [
     BAD_FORM, b" ZZ000000016", b"zz0000000016", b"Zz0000000016", b"Z00000000016", b"000000000016", b"ZZ00000a0016", b"ZZ000-000016",
@@ -157,14 +159,16 @@ TERM_FAULTS = [
     term(spare=1), term(spare=255), term(1, 2, 0.0, 0.5, spare=1),
     term(coupon=-TINY), term(coupon=math.nextafter(100.0, math.inf)), term(coupon=-4.0), term(coupon=math.inf),
     term(coupon=-math.inf), term(coupon=NAN), term(coupon=-NAN),
-    term(ytm=-TINY), term(ytm=math.nextafter(1.0, 2.0)), term(ytm=-0.5), term(ytm=math.inf), term(ytm=-math.inf), term(ytm=NAN),
-    term(1, 2, 0.0, -TINY), term(1, 2, 0.0, math.nextafter(1.0, 2.0)), term(1, 2, 0.0, NAN), term(1, 2, 0.0, -NAN),
-    term(1, 2, -0.0), term(1, 2, TINY), term(1, 2, 4.0), term(1, 2, NAN),
+    LOW_TERM, term(ytm=math.nextafter(1.0, 2.0)), term(ytm=-1.0), term(ytm=math.inf), term(ytm=-math.inf), term(ytm=NAN),
+    term(1, 2, 0.0, TOO_LOW), term(1, 2, 0.0, math.nextafter(1.0, 2.0)), term(1, 2, 0.0, NAN), term(1, 2, 0.0, -NAN),
+    term(1, 2, -0.0), term(1, 2, TINY), term(1, 2, 4.0), term(1, 2, NAN), term(1, 2, 0.0, -1.0),
 ]
 GOOD_TERMS = [
     term(periods=1), term(periods=240), term(1, 1, 0.0), term(1, 240, 0.0), term(coupon=0.0), term(coupon=-0.0), term(coupon=100.0),
     term(coupon=TINY), term(ytm=0.0), term(ytm=-0.0), term(ytm=1.0), term(ytm=TINY), term(ytm=0.5), term(1, 2, 0.0, 0.5),
     term(1, 2, 0.0, -0.0), term(1, 2, 0.0, 1.0), term(2, 1, 10.0, 0.5),
+    term(ytm=-TINY), term(1, 2, 0.0, -TINY), term(ytm=-0.5), term(1, 2, 0.0, -0.5), term(ytm=math.nextafter(-0.5, 0.0)),
+    term(2, 1, 10.0, -0.25), term(2, 240, 100.0, -0.5), term(ytm=-1e-310),
 ]
 GOOD_NAMES = [b"ZZ0000000016", b"ZZ0000000024", b"US0378331005", b"AU0000XVGZA3", b"GB00BYXJL758", b"KYG875721634"]
 GOOD_NAMES.append(with_check_digit("ZZZZZZZZZZZ"))
@@ -238,6 +242,8 @@ def faults():
     yield 0, book(GOOD_NAMES, GOOD_TERMS[:7], 16)
     yield 0, book([name(0), name(1)], [plain_term(0), plain_term(0)])  # equal terms are no fault
     yield 0, book([name(0), name(1)], [term(), term(1, 2, 0.0, 0.5)])  # the book of document 01's listing
+    low = [term(1 + i % 2, i + 1, i % 2 * i / 8, -(i + 1) / 128) for i in range(64)]
+    yield 0, book(list(map(name, range(64))), low, 16)  # yields from just below 0 down to the end
 
 
 def of_two(first, second):
@@ -259,6 +265,9 @@ def pairs():
     yield 6, with_parts(4, {1: name(0), 3: BAD_DIGIT})
     yield 7, with_parts(64, {63: BAD_FORM}, {0: BAD_TERM})
     yield 4, with_parts(64, {0: BAD_FORM}, {63: BAD_TERM})
+    yield 7, with_parts(64, {63: BAD_FORM}, {0: LOW_TERM})
+    yield 4, with_parts(64, {0: BAD_FORM}, {63: LOW_TERM})
+    yield 5, with_parts(2, {1: BAD_DIGIT}, {0: term(ytm=-0.1)})  # the first entry was a fault while a yield lay from 0 on
     for n, i in ((1, 0), (3, 0), (3, 1), (3, 2), (64, 63)):  # in one entry
         yield 4, with_parts(n, {i: BAD_FORM}, {i: BAD_TERM})
         yield 5, with_parts(n, {i: BAD_DIGIT}, {i: BAD_TERM})
@@ -287,10 +296,11 @@ def random_name(rng):
     return with_check_digit(rng.choice(LETTERS) + rng.choice(LETTERS) + rest)
 
 
-def random_term(rng):
+def random_term(rng, end):
+    """A term with a yield from 0 to an end."""
     if rng.random() < 0.4:
-        return term(1, rng.randint(1, 240), 0.0, rng.random())
-    return term(2, rng.randint(1, 240), rng.choice([rng.randint(0, 800) / 8, 100 * rng.random()]), rng.random())
+        return term(1, rng.randint(1, 240), 0.0, end * rng.random())
+    return term(2, rng.randint(1, 240), rng.choice([rng.randint(0, 800) / 8, 100 * rng.random()]), end * rng.random())
 
 
 def damaged_name(rng, names, i):
@@ -323,10 +333,10 @@ def damaged_bytes(rng, text):
     return text[:at] + bytes([rng.randrange(20)]) + text[at + 1:]
 
 
-def random_book(rng):
-    """A valid book, or one with as many as three parts of it damaged."""
-    n = rng.choice([0, 1, 2, 3, 4, 5, 6, 8, 12])
-    names, terms = [random_name(rng) for _ in range(n)], [random_term(rng) for _ in range(n)]
+def random_book(rng, sizes, end):
+    """A valid book with yields from 0 to an end, or one with as many as three parts of it damaged."""
+    n = rng.choice(sizes)
+    names, terms = [random_name(rng) for _ in range(n)], [random_term(rng, end) for _ in range(n)]
     machines, tail = rng.randint(2, 16), 0
     for _ in range(rng.choice([0, 0, 1, 1, 1, 2, 2, 3])):
         how = rng.randrange(9)
@@ -346,9 +356,9 @@ def random_book(rng):
 
 def random_books():
     rng = random.Random(31)
-    for _ in range(220):
-        text = random_book(rng)
-        yield number_of(text), text
+    texts = [random_book(rng, [0, 1, 2, 3, 4, 5, 6, 8, 12], 1) for _ in range(220)]
+    texts += [random_book(rng, [1, 2, 3], -0.5) for _ in range(16)]  # the file has little room for more
+    yield from ((number_of(text), text) for text in texts)
 
 
 # The files.

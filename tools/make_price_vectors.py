@@ -4,10 +4,10 @@
 To run, at the root of the repository: /usr/bin/python3 tools/make_price_vectors.py
 It needs: apt-get install gcc (last run with 12.2 and Python 3.11 of Debian 12)
 
-Whether a term is within the rules of document 01, "The book", is decided here by struct and comparisons of floats.
-The price of a bond, by document 01, "The price", is computed twice: by price_vectors.c, a loop in the machine's binary64
-arithmetic, and here in exact rational arithmetic whose every operation is rounded once to the nearest binary64, ties to
-even. The script fails where the two differ in any bit.
+Whether a term is within the rules of document 01, "The book", with the yields of document 02, 2.1, is decided here by struct
+and comparisons of floats. The price of a bond, by document 01, "The price", is computed twice: by price_vectors.c, a loop in
+the machine's binary64 arithmetic, and here in exact rational arithmetic whose every operation is rounded once to the nearest
+binary64, ties to even. The script fails where the two differ in any bit.
 
 The result depends on nothing else: the random choices have a fixed seed.
 """
@@ -27,6 +27,8 @@ REFUSED = 7  # the number of a term outside the rules
 
 # The examples of document 01: kind, periods, coupon, yield and the price, which must come out so.
 EXAMPLES = [(FIXED, 2, 4.0, 0.0, 104.0), (ZERO, 2, 0.0, 0.5, 64.0), (FIXED, 1, 10.0, 0.5, 84.0)]
+# The same for yields below 0, worked out by hand: no step of these is rounded.
+BY_HAND = [(FIXED, 1, 10.0, -0.25, 120.0), (FIXED, 1, 100.0, -0.5, 200.0), (FIXED, 2, 62.5, -0.5, 275.0), (ZERO, 1, 0.0, -0.4375, 128.0)]
 
 
 def above(x):
@@ -50,6 +52,11 @@ COUPONS += [below(below(100.0)), below(100.0), 100.0]
 ENDS_OF_YIELD = [0.0, -0.0, TINY, 0.05, below(1.0), 1.0]
 ENDS_OF_COUPON = [0.0, -0.0, TINY, 4.25, below(100.0), 100.0]
 PERIODS = [1, 2, 3, 239, 240]
+# Below 1 the numbers lie closer: a yield of -2^-53, -3 * 2^-53 or -5 * 2^-53 puts 1 + yield / 2 halfway between two.
+HALFWAY_BELOW = [x for k in (1, 3, 5) for x in (above(-k * 2.0 ** -53), -k * 2.0 ** -53, below(-k * 2.0 ** -53))]
+YIELDS_BELOW_0 = [*(-x for x in SUBNORMAL), *HALFWAY_BELOW, -2.0 ** -52, -1e-300, -1e-9, -0.0001, -0.0015, -0.0075, -0.02, -0.05, -0.125]
+YIELDS_BELOW_0 += [above(-0.25), -0.25, below(-0.25), -1 / 3, -0.4375, above(above(above(-0.5))), above(above(-0.5)), above(-0.5), -0.5]
+ENDS_BELOW_0 = [-TINY, -0.25, above(-0.5), -0.5]
 
 
 def bits(x):
@@ -70,11 +77,14 @@ def bond(kind, periods, coupon, ytm):
 
 
 def within_the_rules(text):
-    """A NaN fails each comparison, and negative zero equals 0. A zero-coupon term's coupon has all 64 bits clear."""
+    """A NaN fails each comparison, and negative zero equals 0. A zero-coupon term's coupon has all 64 bits clear.
+
+    "A yield now lies from -0.5 to 1, ends included" (document 02, 2.1).
+    """
     kind, periods, spare, coupon, ytm = struct.unpack("<BBBdd", text)
     if kind not in (ZERO, FIXED) or not 1 <= periods <= 240 or spare != 0:
         return False
-    if not (0.0 <= coupon <= 100.0 and 0.0 <= ytm <= 1.0):
+    if not (0.0 <= coupon <= 100.0 and -0.5 <= ytm <= 1.0):
         return False
     return kind == FIXED or text[3:11] == bytes(8)
 
@@ -114,7 +124,7 @@ def c_prices(texts):
 
 
 def bonds():
-    """Terms within the rules, for their prices."""
+    """Terms within the rules of document 01, for their prices."""
     rng = random.Random(240)
     yield from (bond(*example[:4]) for example in EXAMPLES)
     for ytm in YIELDS:
@@ -133,12 +143,31 @@ def bonds():
         yield bond(ZERO, rng.randint(1, 60), 0.0, rng.randint(1, 1500) / 10000)
 
 
+def bonds_below_0():
+    """Terms with the yields that document 02, 2.1, adds."""
+    rng = random.Random(21)
+    yield from (bond(*example[:4]) for example in BY_HAND)
+    for ytm in YIELDS_BELOW_0:
+        yield from (bond(ZERO, n, 0.0, ytm) for n in PERIODS)
+        yield from (bond(FIXED, n, rng.choice(COUPONS), ytm) for n in PERIODS)
+    for coupon in ENDS_OF_COUPON:
+        yield from (bond(FIXED, n, coupon, ytm) for ytm in ENDS_BELOW_0 for n in (1, 2, 240))
+    for n in range(1, 241, 3):
+        yield bond(ZERO, n, 0.0, rng.choice([-0.0375, -1 / 3, -rng.random() / 2]))
+        yield bond(FIXED, n + 1, rng.choice([5.125, 100 / 7, 100 * rng.random()]), rng.choice([-0.0375, -1 / 3, -rng.random() / 2]))
+    for _ in range(30):  # market rates of short bonds
+        yield bond(FIXED, rng.randint(1, 10), rng.randint(0, 60) / 8, -rng.randint(1, 150) / 10000)
+        yield bond(ZERO, rng.randint(1, 10), 0.0, -rng.randint(1, 150) / 10000)
+
+
 # Bit patterns of rates: inside and one step outside the ends, other signs and sizes, infinities, NaNs quiet and signalling.
 RATES = [bits(x) for end in (0.0, 0.05, 1.0, 100.0) for x in (below(end), end, above(end))]
 RATES += [bits(-x) for x in (0.0, TINY, LEAST_NORMAL, 0.05, 1.0, 100.0, sys.float_info.max, math.inf)]
 RATES += [bits(x) for x in (LEAST_NORMAL, 0.5, 2.0, 50.0, 101.0, 1e300, sys.float_info.max, math.inf)]
 RATES += [sign + n for sign in (0, 2 ** 63) for n in (0x7FF0000000000001, 0x7FF4000000000000, 0x7FF7FFFFFFFFFFFF)]
 RATES += [sign + n for sign in (0, 2 ** 63) for n in (0x7FF8000000000000, 0x7FF8000000000001, 0x7FFFFFFFFFFFFFFF)]
+# The same around the end of document 02, 2.1, and between it and 0.
+RATES_BELOW_0 = [bits(x) for x in (below(-0.5), -0.5, above(-0.5), -0.25, -0.75, -2.0, below(-LEAST_NORMAL), *(-x for x in SUBNORMAL))]
 
 
 def terms():
@@ -163,6 +192,20 @@ def terms():
         yield term(kind, periods, rng.choice([0, *RATES]), rng.choice(RATES), spare)
 
 
+def terms_below_0():
+    """Terms whose yield or coupon is below 0, and yields that differ from 0 or an end in one bit."""
+    rng = random.Random(27)
+    ytm = bits(0.05)
+    for kind, coupon in ((ZERO, bits(0.0)), (FIXED, bits(4.25))):
+        yield from (term(kind, 20, coupon, rate) for rate in RATES_BELOW_0)
+        yield from (term(kind, 20, rate, ytm) for rate in RATES_BELOW_0)
+        for end in (-0.0, -0.5, 1.0):
+            yield from (term(kind, 20, coupon, bits(end) ^ 2 ** k) for k in range(64))
+    for _ in range(100):  # any parts together, with several faults or none
+        kind, periods, spare = rng.choice([0, 1, 2, 2, 2, 3]), rng.choice([0, 1, 120, 240, 241]), rng.choice([0, 0, 0, 1])
+        yield term(kind, periods, rng.choice([0, 0, bits(4.25), *RATES]), rng.choice(RATES_BELOW_0), spare)
+
+
 def priced(texts):
     """The price bits of each term within the rules, on which both computations agree."""
     inside = [text for text in texts if within_the_rules(text)]
@@ -180,12 +223,12 @@ def record(text, prices):
 
 
 def main():
-    all_bonds, all_terms = (list(dict.fromkeys(texts)) for texts in (bonds(), terms()))
+    all_bonds, all_terms = (list(dict.fromkeys(texts)) for texts in ([*bonds(), *bonds_below_0()], [*terms(), *terms_below_0()]))
     prices = priced(all_bonds + all_terms)
     fail_unless(all(text in prices for text in all_bonds), "a bond is refused")
     fail_unless(len(all_bonds) >= 500 and len(all_terms) >= 300, "too few")
-    for example in EXAMPLES:
-        fail_unless(of_bits(prices[bond(*example[:4])]) == example[4], f"{example}: not the price of document 01")
+    for example in EXAMPLES + BY_HAND:
+        fail_unless(of_bits(prices[bond(*example[:4])]) == example[4], f"{example}: another price")
     write_file("terms.bin", [record(text, prices) for text in all_terms])
     write_file("prices.bin", [record(text, prices) for text in all_bonds])
     write_stdout()

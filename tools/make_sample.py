@@ -7,18 +7,19 @@ It needs Python's standard library only (last run with Python 3.11).
 Each is the same program on other data:
 
     rakhvide            the listing of document 01, "Examples", with the output printed there
-    rakhvide_sample     a book of 20 municipal and corporate bonds, and a list of events in which three machines steal from the root and
-                        from each other, one of them dies with bonds in hand, its bonds come back under the next replica number, and
-                        every bond is priced in the end; a few events of the list are refused
+    rakhvide_sample     a book of 20 municipal and corporate bonds, a short one at a yield below 0 among them, and a list of events in
+                        which three machines steal from the root and from each other, one of them dies with bonds in hand, its bonds
+                        come back under the next replica number, and every bond is priced in the end; a few events of the list are
+                        refused
     test_no_files       neither book.bin nor events.bin
     test_refused_book   a book whose second entry has a wrong check digit and whose third has another form
     test_long_list      20,000 events, of which the last is refused, and two more that are not read
     test_broken_event   a last event of two bytes
 
-The events of rakhvide_sample are chosen at random, with a fixed seed, by way of the table of model.py, which is document 01 in Python
-and shares nothing with the crates; its page is the model's, but the prices are decided by exact rational arithmetic whose every
-operation is rounded once to the nearest binary64, ties to even. The other pages are written here by hand from document 01's text,
-"The program's page". The script fails where a price or a page of the model differs.
+The events of rakhvide_sample are chosen at random, with a fixed seed, by way of the table of model.py, which is documents 01 and 02
+in Python and shares nothing with the crates; its page is the model's, but the prices are decided by exact rational arithmetic whose
+every operation is rounded once to the nearest binary64, ties to even. The other pages are written here by hand from document 01's
+text, "The program's page". The script fails where a price or a page of the model differs.
 
 The bonds are invented; their identifiers have the form and the check digit of ISO 6166. The result depends on nothing else.
 """
@@ -49,7 +50,7 @@ SAMPLE_BONDS = [
     entry("USMUN001301", FIXED, 40, 5.0, 0.0385),
     entry("USMUN001318", FIXED, 20, 4.0, 0.0342),
     entry("USMUN001335", FIXED, 60, 5.25, 0.0431),
-    entry("USMUN001352", FIXED, 10, 3.0, 0.0298),
+    entry("USMUN001352", FIXED, 1, 3.0, -0.0015),
     entry("USMUN001369", ZERO, 30, 0.0, 0.0377),
     entry("USMUN001386", ZERO, 24, 0.0, 0.0361),
     entry("USMUN001403", FIXED, 50, 4.5, 0.0402),

@@ -7,8 +7,8 @@ prints the page of the folder's book.bin and events.bin, which the program print
 followed by the price as a decimal number, which the program does not print. What the number of a refusal means is in
 docs/PROTOCOL.md, "The numbers". It needs Python 3.10 or later, and its standard library only.
 
-It is written from document 01's text and shares nothing with the crates. It is the desk's second opinion, and it tells
-picture.py what happened at each event. It holds tables of runs only, which are never refused 9, so it has no check 9.
+It is written from the text of documents 01 and 02 and shares nothing with the crates. It is the desk's second opinion, and it
+tells picture.py what happened at each event. It holds tables of runs only, which are never refused 9, so it has no check 9.
 
 A file that cannot be read counts as empty, as it does in the program, and is named on standard error. Of a list the first
 20,000 events are read; of a longer one the tool warns.

@@ -357,7 +357,7 @@ def legend(width: float, top: float) -> tuple[list[Element], float]:
 
 def bond_line(number: int, entry: books.Entry, job: model.Job) -> tuple[str, str, str, str]:
     """What the book and the page say of a bond."""
-    terms = f"{entry.periods} half-years at {entry.ytm!r}"
+    terms = f"{desk.plural(entry.periods, 'half-year')} at {entry.ytm!r}"
     kind = f"zero, {terms}" if entry.kind == books.ZERO else f"coupon {entry.coupon!r}, {terms}"
     if job.state == model.PRICED:
         state = f"priced {job.price:.6f}, replica {job.replica}"

@@ -4,7 +4,7 @@
     python3 tools/test_desk.py
 
 It needs Python 3.10 or later and its standard library only, and writes to a temporary folder. Where mypy (Debian: mypy) is there it checks the
-annotations, where cargo is there it builds what bench/run load needs. What is expected is document 01's, or was decided by
+annotations, where cargo is there it builds what bench/run load needs. What is expected is document 01's and 02's, or was decided by
 other programs: the books of test_book with their numbers, the prices of the sample close.
 """
 import contextlib
@@ -119,7 +119,7 @@ def entries_of(terms):
 def random_run(seed, machines, entries, count):
     """A book and events most of which are accepted; deaths and broken events among them."""
     rng = random.Random(seed)
-    bonds = entries_of([(book_bytes.FIXED, rng.randint(1, 240), 0, 100 * rng.random(), rng.random()) for _ in range(entries)])
+    bonds = entries_of([(book_bytes.FIXED, rng.randint(1, 240), 0, 100 * rng.random(), rng.uniform(-0.5, 1)) for _ in range(entries)])
     table, found = model.Table(machines, bonds), []
     for _ in range(count):
         found.append(random_event(rng, table))
@@ -183,7 +183,7 @@ class Books(Folder):
 
     def test_numbers_are_those_of_book_cases(self):
         cases = list(book_cases())
-        self.assertEqual(len(cases), 689)
+        self.assertEqual(len(cases), 727)
         for number, data in cases:
             self.assertEqual(book_bytes.number_of(data), number)
 
@@ -195,10 +195,11 @@ class Books(Folder):
 
     def test_rates_come_back_bit_for_bit(self):
         rates = [0.0, -0.0, 5e-324, 0.1, 1 / 3, math.nextafter(1.0, 0.0), 1.0]
-        terms = [(book_bytes.FIXED, 2, 0, coupon, ytm) for coupon in rates for ytm in rates]
-        data = book_bytes.book_of(2, entries_of(terms))
-        self.assertEqual(book_bytes.number_of(data), 0)
-        self.assertEqual(book.make(book.show(data)), data)
+        below = [-5e-324, -1e-310, -0.0015, -0.25, math.nextafter(-0.5, 0.0), -0.5]
+        for ytms in (rates, below):
+            data = book_bytes.book_of(2, entries_of([(book_bytes.FIXED, 2, 0, coupon, ytm) for coupon in rates for ytm in ytms]))
+            self.assertEqual(book_bytes.number_of(data), 0)
+            self.assertEqual(book.make(book.show(data)), data)
 
     def test_commands(self):
         done, written = self.make(LISTING_BOOK)
@@ -278,14 +279,28 @@ class Books(Folder):
     def test_refused_7(self):
         for row, column in (
                 ("fixed,0,4,0", "periods"), ("fixed,241,4,0", "periods"), ("fixed,-1,4,0", "periods"), ("fixed,2,-1e-9,0", "coupon"),
-                ("fixed,2,100.00000000000002,0", "coupon"), ("fixed,2,nan,0", "coupon"), ("fixed,2,inf,0", "coupon"), ("fixed,2,4,-0.5", "yield"),
+                ("fixed,2,100.00000000000002,0", "coupon"), ("fixed,2,nan,0", "coupon"), ("fixed,2,inf,0", "coupon"), ("fixed,2,-0.5,0", "coupon"),
                 ("fixed,2,4,1.0000000000000002", "yield"), ("fixed,2,4,nan", "yield"), ("zero,2,1,0", "coupon"), ("zero,2,-0.0,0", "coupon")):
             self.assert_refused(HEADER + GOOD + "ZZ0000000024," + row + "\n", f"row 3, column {column}", "refused 7")
-        for ytm, fraction in (("4.25", "0.0425"), ("4.123456789", "0.04123456789"), ("1e1", "0.1"), ("4." + 50 * "1", "0.04" + 50 * "1")):
-            words = f"yield: {ytm} is outside 0 to 1; {ytm} percent is written {fraction} (refused 7)"
+        for ytm, fraction in (("4.25", "0.0425"), ("4.123456789", "0.04123456789"), ("1e1", "0.1"), ("4." + 50 * "1", "0.04" + 50 * "1"),
+                              ("-1.5", "-0.015"), ("-0.75", "-0.0075"), ("-0.5123456789", "-0.005123456789"), ("-5e1", "-0.5"), ("100", "1.00")):
+            words = f"yield: {ytm} is outside -0.5 to 1; {ytm} percent is written {fraction} (refused 7)"
             self.assert_refused(HEADER + f"ZZ0000000016,fixed,2,4, {ytm}\n", words)
+        for ytm in ("100.1", "-50.1", "1e300", "inf", "-inf", "nan"):  # no percent either
+            self.assert_refused(HEADER + f"ZZ0000000016,fixed,2,4,{ytm}\n", f"yield: {ytm} is outside -0.5 to 1 (refused 7)")
         faulty = book_bytes.book_of(2, entries_of([(book_bytes.FIXED, 2, 0, 4.0, 4.123456789)]))
         self.assert_message(tool("book.py", "show", self.file("f.bin", faulty)), "4.123456789 percent is written 0.04123456789 (refused 7)")
+
+    def test_the_ends_of_a_yield(self):
+        """Document 02, 2.1: "A yield now lies from -0.5 to 1, ends included". The cells beyond them are the next doubles."""
+        for terms in ("fixed,2,4,", "zero,2,,"):
+            for ytm, bits in (("-0.5", "BFE0000000000000"), ("-0.49999999999999994", "BFDFFFFFFFFFFFFF"), ("-0.0", "8000000000000000"),
+                              ("-5e-324", "8000000000000001"), ("-2.225073858507201e-308", "800FFFFFFFFFFFFF"), ("1", "3FF0000000000000")):
+                done, written = self.make(HEADER + "ZZ0000000016," + terms + ytm + "\n")
+                self.assertEqual((done.returncode, written[-8:][::-1].hex().upper()), (0, bits), ytm)
+                (self.folder / "book.bin").unlink()
+            for ytm in ("-0.5000000000000001", "1.0000000000000002"):
+                self.assert_refused(HEADER + "ZZ0000000016," + terms + ytm + "\n", "row 2, column yield: ", "is outside -0.5 to 1", "refused 7")
 
     def test_long_numbers(self):
         """They are told by what the cell says, shortened."""
@@ -340,15 +355,22 @@ class Books(Folder):
         """A warning stops nothing. Document 01's examples, with a yield of 0.5, have none."""
         coupon = "warning: row 3, column coupon: 0.045 is taken as 0.045 per 100 of face; a coupon of 4.5 percent is written 4.5"
         ytm = "warning: row 3, column yield: 0.95 is taken as 95 percent; a yield of 0.95 percent is written 0.0095"
+        low = "warning: row 3, column yield: -0.25 is taken as -25 percent; a yield of -0.25 percent is written -0.0025"
         for terms, lines in (("fixed,2,0.045,0.05", [coupon]), ("fixed,2,4,0.95", [ytm]), ("zero,2,,0.95", [ytm]), ("fixed,2,0.045,0.95", [coupon, ytm]),
-                             ("fixed,2,0.25,0.5", []), ("fixed,2,0,0", []), ("zero,2,,0.5", []), ("fixed,2,100,0.05", [])):
+                             ("fixed,2,4,-0.25", [low]), ("zero,2,,-0.25", [low]), ("fixed,2,0.045,-0.25", [coupon, low]),
+                             ("fixed,2,0.25,0.5", []), ("fixed,2,0,0", []), ("zero,2,,0.5", []), ("fixed,2,100,0.05", []),
+                             ("fixed,1,3,-0.0015", []), ("fixed,2,4,-0.01", []), ("zero,2,,-0.0", [])):
             done, written = self.make(f"# machines 4\n{HEADER}ZZ0000000016,{terms}\n")
             said = [line.split(": ", 1)[1] for line in done.stderr.decode().splitlines()]
             self.assertEqual((done.returncode, said), (0, lines), terms)
             self.assertEqual(book_bytes.number_of(written), 0)
         for terms, words in (("fixed,2,0.04123456789,0", "a coupon of 4.123456789 percent is written 4.123456789"),
-                             ("fixed,2,4,0.9512345678", "is taken as 95.12345678 percent; a yield of 0.9512345678 percent is written 0.009512345678")):
+                             ("fixed,2,4,0.9512345678", "is taken as 95.12345678 percent; a yield of 0.9512345678 percent is written 0.009512345678"),
+                             ("fixed,2,4,-0.010001", "is taken as -1.0001 percent; a yield of -0.010001 percent is written -0.00010001"),
+                             ("fixed,2,4,-0.5", "is taken as -50 percent; a yield of -0.5 percent is written -0.005")):
             self.assertIn(words, self.make(f"# machines 4\n{HEADER}ZZ0000000016,{terms}\n")[0].stderr.decode())
+        done = self.make(f"# machines 4\n{HEADER}ZZ0000000016,fixed,2,4,-0.75\n", "--anyway")[0]
+        self.assertEqual((done.returncode, done.stderr.count(b"warning")), (0, 0))  # it is refused 7, whatever the unit
         rows = "".join(f"{name.decode()},fixed,2,0.01,0.99\n" for name in names(64))
         done = self.make("# machines 4\n" + HEADER + rows)[0]
         self.assertEqual((done.returncode, len(done.stderr.splitlines())), (0, 21))
@@ -391,12 +413,17 @@ class Books(Folder):
                 ("ZZ0000000016,fixed,2, ,0", "row 2, column coupon: an empty cell is not a number"),
                 ("ZZ0000000016,fixed,2,4.5%,0", "coupon: '4.5%' is not a number; 4.5 percent is written 4.5"),
                 ("ZZ0000000016,fixed,2,4,4.123456789 %", "yield: '4.123456789 %' is not a number; 4.123456789 percent is written 0.04123456789"),
+                ("ZZ0000000016,fixed,2,4,-0.12 %", "yield: '-0.12 %' is not a number; -0.12 percent is written -0.0012"),
+                ("ZZ0000000016,fixed,2,4,-3%", "yield: '-3%' is not a number; -3 percent is written -0.03"),
+                ("ZZ0000000016,fixed,2,4,\u22120.0012", "yield: '\u22120.0012' is not a number: character 1 is minus sign (U+2212)"),
                 ('ZZ0000000016,fixed,2,"4,5",0', "coupon: '4,5' is not a number; decimals are written with a point"),
                 ("ZZ0000000016,fixed,2,4,5,0", "row 2: 6 cells, and the header has 5; decimals are written with a point"),
                 ("ZZ0000000016;fixed;2;4,5;0,05", "row 2: its cells are parted by semicolons, not by commas"),
                 ("ZZ0000000016,fixed,2,4,0,a;b", "row 2: 6 cells"),
                 ("ZZ0000000016,fixed,2,4,0\u20245", "row 2, column yield: '0\u20245' is not a number: character 2 is one dot leader (U+2024)")):
             self.assert_refused(HEADER + row + "\n", words)
+        for terms in ("-4.5%,0", "100.1%,0", "4,--3%", "4,-50.1%", "4,150 %"):  # none has a form that is accepted
+            self.assertNotIn(b"is written", self.make(HEADER + "ZZ0000000016,fixed,2," + terms + "\n")[0].stderr)
         for text in ("", GOOD, "identifier,kind,periods,yield,coupon\n" + GOOD):
             self.assert_refused(text, "header")
 
@@ -575,6 +602,8 @@ class Model(Folder):
     def test_prices(self):
         terms = [(book_bytes.FIXED, 2, 0, 4.0, 0.0), (book_bytes.ZERO, 2, 0, 0.0, 0.5), (book_bytes.FIXED, 1, 0, 10.0, 0.5)]
         self.assertEqual([model.price_of(entry) for entry in entries_of(terms)], [104, 64, 84])
+        terms = [(book_bytes.FIXED, 1, 0, 10.0, -0.25), (book_bytes.FIXED, 1, 0, 100.0, -0.5), (book_bytes.ZERO, 1, 0, 0.0, -0.4375)]
+        self.assertEqual([model.price_of(entry) for entry in entries_of(terms)], [120, 200, 128])  # by hand: no step is rounded
 
     def table(self, text, machines=3):
         """The table after a list of events, all of which are accepted."""
@@ -775,17 +804,21 @@ class Picture(Folder):
     def test_long_rates(self):
         """Terms and states are whole, and none covers another or leaves the picture."""
         terms = [(book_bytes.FIXED, 240, 0, 100 / 3, 1 / 3), (book_bytes.FIXED, 240, 0, 2.2250738585072014e-308, 1.2345678901234568e-300),
-                 (book_bytes.FIXED, 240, 0, 100.0, 0.0), (book_bytes.ZERO, 1, 0, 0.0, 0.5)]
+                 (book_bytes.FIXED, 240, 0, 100.0, 0.0), (book_bytes.ZERO, 1, 0, 0.0, 0.5), (book_bytes.FIXED, 240, 0, 100.0, -0.5)]
         bonds = entries_of(terms)
         found = "".join(f"admit {i}\nstart 0 job {i}\ndone 0\ndeliver 0 to 0\n" for i in range(len(terms)))
         tree = xml.etree.ElementTree.fromstring(svg.document(picture.picture(book_bytes.book_of(2, bonds), events.make(found))))
         texts = {node.text: node for node in tree.iter(SVG_TEXT)}
         self.assertIn(f"coupon {100 / 3!r}, 240 half-years at {1 / 3!r}", texts)
         self.assertIn("coupon 2.2250738585072014e-308, 240 half-years at 1.2345678901234568e-300", texts)
+        self.assertIn("zero, 1 half-year at 0.5", texts)
         end = {words: float(node.get("x")) + svg.width_of(words, float(node.get("font-size"))) for words, node in texts.items() if words}
-        terms_at = {float(node.get("x")) for words, node in texts.items() if words and "half-years at" in words}
-        self.assertLess(end["priced 12100.000000, replica 1"], min(terms_at))
-        self.assertLess(max(place for words, place in end.items() if "half-years at" in words), float(tree.get("width")) - picture.MARGIN)
+        terms_at = {float(node.get("x")) for words, node in texts.items() if words and " half-year" in words}
+        states = [words for words in texts if words and words.startswith("priced ")]
+        self.assertIn("priced 12100.000000, replica 1", states)
+        self.assertEqual(max(map(len, states)), len("priced .000000, replica 1") + 33)  # at a yield of -0.5 the price has 33 digits
+        self.assertLess(max(end[words] for words in states), min(terms_at))
+        self.assertLess(max(place for words, place in end.items() if " half-year" in words), float(tree.get("width")) - picture.MARGIN)
 
     def test_a_picture_too_high_is_told(self):
         self.file("book.bin", book.make(LISTING_BOOK))

@@ -4,8 +4,9 @@
 To run, at the root of the repository: /usr/bin/python3 tools/validity_cases.py
 
 A case is a label, the changes made to one table that passes check 9, and the answer expected: 0 or 9. Each expectation is
-read off document 01, "The table" and row 9 of "Where each refusal is checked", whose words stand above the cases; no
-program of this repository decides one. A case that passes stands beside those refused where the two differ little.
+read off document 01, "The table" and row 9 of "Where each refusal is checked", and for yields off document 02, 2.1; their
+words stand above the cases, and no program of this repository decides one. A case that passes stands beside those refused
+where the two differ little.
 
 The table that every case starts from (crates/test_validity/src/tables.rt builds it): 4 machines, of which 3 is dead and
 the root was told of it, so that no replica number is above 2; 3 entries. Job 0 is open with replica 1, moving from 1 to 2;
@@ -24,8 +25,8 @@ FIELDS = """machines entries in_flight periods zero_yield coupon yield state rep
 reserved_job reserved_replica reserved_thief running_job running_replica waits told pool
 kind from to job copy for bits""".split()
 
-# The rates of a bond's terms.
-PLUS_0, MINUS_0, BELOW_0, ONE, ABOVE_ONE, HUNDRED, ABOVE_HUNDRED, NAN = range(8)
+# The rates of a bond's terms; the last three are the number next below -0.5, -0.5, the number next above it.
+PLUS_0, MINUS_0, BELOW_0, ONE, ABOVE_ONE, HUNDRED, ABOVE_HUNDRED, NAN, BELOW_LEAST, LEAST, ABOVE_LEAST = range(11)
 
 FISH, REQ, AUTH, DENIED, OBSOLETE, SCHEDULE, ACK, NOWORK, RESULT = range(1, 10)
 
@@ -61,14 +62,17 @@ CASES += [("a fourth entry", [("entries", 0, 4), ("periods", 3, 1)], 0)]
 CASES += [("a fifth machine, dead", [("machines", 0, 5)], 0)]
 CASES += [("a fifth machine, alive", [("machines", 0, 5), ("alive", 4, 1)], 0)]
 
-# "term outside its range": periods 1 to 240, coupon 0 to 100, yield 0 to 1, ends included; a NaN is outside, -0 is inside
+# "term outside its range": periods 1 to 240, coupon 0 to 100, ends included; a NaN is outside, -0 is inside
+# "A yield now lies from -0.5 to 1, ends included" (document 02, 2.1)
 CASES += one("periods", 0, (0, 9), (1, 0), (240, 0), (241, 9))
-CASES += one("yield", 0, (PLUS_0, 0), (MINUS_0, 0), (BELOW_0, 9), (ONE, 0), (ABOVE_ONE, 9), (NAN, 9))
-CASES += one("zero_yield", 1, (PLUS_0, 0), (MINUS_0, 0), (BELOW_0, 9), (ONE, 0), (ABOVE_ONE, 9), (NAN, 9))
-CASES += one("coupon", 2, (PLUS_0, 0), (MINUS_0, 0), (BELOW_0, 9), (HUNDRED, 0), (ABOVE_HUNDRED, 9), (NAN, 9))
+CASES += one("yield", 0, (PLUS_0, 0), (MINUS_0, 0), (BELOW_0, 0), (ONE, 0), (ABOVE_ONE, 9), (NAN, 9))
+CASES += one("yield", 0, (BELOW_LEAST, 9), (LEAST, 0), (ABOVE_LEAST, 0))
+CASES += one("zero_yield", 1, (PLUS_0, 0), (MINUS_0, 0), (BELOW_0, 0), (ONE, 0), (ABOVE_ONE, 9), (NAN, 9))
+CASES += one("zero_yield", 1, (BELOW_LEAST, 9), (LEAST, 0), (ABOVE_LEAST, 0))
+CASES += one("coupon", 2, (PLUS_0, 0), (MINUS_0, 0), (BELOW_0, 9), (HUNDRED, 0), (ABOVE_HUNDRED, 9), (NAN, 9), (LEAST, 9))
 # "an unused part not 0": entry numbers from n on have no terms
 CASES += one("periods", 3, (1, 9)) + one("periods", 63, (240, 9))
-CASES += one("zero_yield", 3, (PLUS_0, 0), (MINUS_0, 9), (ONE, 9), (NAN, 9)) + one("coupon", 63, (PLUS_0, 9))
+CASES += one("zero_yield", 3, (PLUS_0, 0), (MINUS_0, 9), (BELOW_0, 9), (ONE, 9), (NAN, 9), (LEAST, 9)) + one("coupon", 63, (PLUS_0, 9))
 CASES += [("an entry less", [("entries", 0, 2)], 9)]
 
 # "not admitted, open or priced"; "a job not admitted has replica 0 and place 0, a job not priced has price bits 0"

@@ -108,6 +108,13 @@ mod tests {
     }
 
     #[test]
+    fn yields() {
+        assert!(term(&term_bytes(2, 1, 3.0, -0.0015)).is_some());
+        assert!(term(&term_bytes(1, 2, 0.0, -0.5)).is_some());
+        assert!(term(&term_bytes(1, 2, 0.0, (-0.5f64).next_down())).is_none());
+    }
+
+    #[test]
     fn zero_coupon_has_no_coupon() {
         assert!(term(&term_bytes(1, 2, 0.0, -0.0)).is_some());
         assert!(term(&term_bytes(1, 2, -0.0, 0.0)).is_none());

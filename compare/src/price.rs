@@ -1,5 +1,7 @@
 //! Terms of a bond and its price, in binary64.
 
+use std::ops::RangeInclusive;
+
 /// "a bond's terms are one of two cases, zero or fixed, each carrying its rates"
 #[derive(Clone, Copy, Debug)]
 pub enum Terms {
@@ -14,6 +16,9 @@ pub struct Bond {
     pub terms: Terms,
 }
 
+/// "A yield now lies from -0.5 to 1, ends included" (document 02, 2.1)
+const YIELDS: RangeInclusive<f64> = -0.5..=1.0;
+
 /// The bits that stand for every NaN.
 const NAN_BITS: u64 = 0x7FF8_0000_0000_0000;
 
@@ -26,14 +31,21 @@ impl Bond {
         self.periods == 0 && matches!(self.terms, Terms::Zero { ytm } if ytm.to_bits() == 0)
     }
 
-    /// "periods (1 to 240 half-years) [..] Coupon lies from 0 to 100, yield from 0 to 1, ends included; a
-    /// NaN is outside. Negative zero is inside"
+    /// "periods (1 to 240 half-years) [..] Coupon lies from 0 to 100, [..] ends included; a NaN is outside.
+    /// Negative zero is inside"; the yields are document 02's.
     pub fn in_range(&self) -> bool {
         let rates = match self.terms {
-            Terms::Zero { ytm } => (0.0..=1.0).contains(&ytm),
-            Terms::Fixed { coupon, ytm } => (0.0..=100.0).contains(&coupon) && (0.0..=1.0).contains(&ytm),
+            Terms::Zero { ytm } => YIELDS.contains(&ytm),
+            Terms::Fixed { coupon, ytm } => (0.0..=100.0).contains(&coupon) && YIELDS.contains(&ytm),
         };
         (1..=240).contains(&self.periods) && rates
+    }
+
+    /// The yield of either case.
+    pub fn ytm(&self) -> f64 {
+        match self.terms {
+            Terms::Zero { ytm } | Terms::Fixed { ytm, .. } => ytm,
+        }
     }
 
     /// The bits of the price.
@@ -76,12 +88,31 @@ mod tests {
         assert_eq!(price_fixed(1, 10.0, 0.5), 84f64.to_bits());
     }
 
+    /// By hand: no step is rounded.
+    #[test]
+    fn yields_below_zero() {
+        assert_eq!(price_fixed(1, 10.0, -0.25), 120f64.to_bits());
+        assert_eq!(price_fixed(2, 62.5, -0.5), 275f64.to_bits());
+        assert_eq!(price_zero(1, -0.4375), 128f64.to_bits());
+    }
+
     #[test]
     fn ranges() {
         let fixed = |periods, coupon, ytm| Bond { periods, terms: Terms::Fixed { coupon, ytm } }.in_range();
         assert!(fixed(240, 100.0, 1.0) && fixed(1, -0.0, -0.0));
         assert!(!fixed(241, 4.0, 0.0) && !fixed(0, 4.0, 0.0));
         assert!(!fixed(2, 4.0, f64::NAN) && !fixed(2, f64::NAN, 0.0));
-        assert!(!fixed(2, 100.0f64.next_up(), 0.0) && !fixed(2, 4.0, 0.0f64.next_down()));
+        assert!(!fixed(2, 100.0f64.next_up(), 0.0) && !fixed(2, 0.0f64.next_down(), 0.0));
+    }
+
+    #[test]
+    fn ends_of_a_yield() {
+        let low = (-0.5f64).next_up();
+        for kind in [|ytm| Terms::Zero { ytm }, |ytm| Terms::Fixed { coupon: 4.0, ytm }] {
+            let inside = |ytm| Bond { periods: 2, terms: kind(ytm) }.in_range();
+            assert!([-0.5, low, -0.25, -5e-324, -0.0, 0.0, 1.0].into_iter().all(inside));
+            assert!(![(-0.5f64).next_down(), -1.0, 1.0f64.next_up(), f64::NAN].into_iter().any(inside));
+        }
+        assert_eq!([(-0.5f64).to_bits(), low.to_bits()], [0xBFE0_0000_0000_0000, 0xBFDF_FFFF_FFFF_FFFF]);
     }
 }

@@ -19,7 +19,7 @@ use Rattle.book_term.specs.declared.Reading.the-variants.{Faulty, Valid}
 abbrev pub floatOf : ℕ → Float
 floatOf bits = ofBits binary64 bits
 
--- "Coupon lies from 0 to 100, yield from 0 to 1, ends included; a NaN is outside"
+-- the ranges of document 01, and of document 02, 2.1, for the yield: "ends included; a NaN is outside"
 unfoldable pub checked : Bond → Reading
 checked b = cond (inRange b) (Valid b) Faulty
 

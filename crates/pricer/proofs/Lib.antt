@@ -1,5 +1,6 @@
 pub mod Steps
-pub mod Signs
+pub mod Rounding
 pub mod Divisor
-pub mod NoNan
+pub mod Bounds
 pub mod Real
+pub mod WellDefined

@@ -1,4 +1,4 @@
--- No rate in range is a NaN, whatever the ends of the range. Assumes nothing.
+-- The terms of a bond in range are in range, and none of their rates is a NaN, whatever the ends. Assumes nothing.
 use mathlib.Core.Path.{_≡_, sym}
 use mathlib.Core.Bool.{true, not, true≢false}
 use lib.Dec.{T}
@@ -30,6 +30,9 @@ terms-real (Fixed c y) h = (
   le-real _ y (and-left _ _ (and-right (couponInRange c) (yieldInRange y) h)),
 )
 
-pub rates-real : (b : Bond) → inRange b ≡ true → RatesReal (b .terms)
+pub terms-in : (b : Bond) → inRange b ≡ true → termsInRange (b .terms) ≡ true
 unfolding inRange
-rates-real b h = terms-real (b .terms) (and-right (periodsInRange (b .periods)) (termsInRange (b .terms)) h)
+terms-in b h = and-right (periodsInRange (b .periods)) (termsInRange (b .terms)) h
+
+pub rates-real : (b : Bond) → inRange b ≡ true → RatesReal (b .terms)
+rates-real b h = terms-real (b .terms) (terms-in b h)

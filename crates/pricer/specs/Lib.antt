@@ -1,3 +1,4 @@
 pub mod Price
 pub mod Range
+pub mod WellDefined
 pub mod Bonds

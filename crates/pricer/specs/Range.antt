@@ -1,7 +1,7 @@
--- The ranges of a bond's terms, document 01, "The book". Definitions only.
+-- The ranges of a bond's terms, document 01, "The book", and document 02, 2.1, for the yield. Definitions only.
 use Prim.Native.Nat.{ℕ}
-use mathlib.Core.Bool.{Bool, false, _&&_}
-use lib.IntN.{pos}
+use mathlib.Core.Bool.{Bool, true, false, _&&_}
+use lib.IntN.{pos, negsuc}
 use lib.Dec.{leb}
 use lib.Ieee.{Float, fin, le}
 use Rattle.pricer.specs.Price.{one, hundred}
@@ -21,14 +21,14 @@ zeroFloat = fin false 0 (pos 0)
 abbrev pub couponInRange : Float → Bool
 couponInRange c = within zeroFloat hundred c
 
--- the ends of "yield from 0 to 1"
+-- the ends of "A yield now lies from -0.5 to 1, ends included": `fin true m (negsuc e)` is -m / 2 ^ (e + 1)
 abbrev pub lowestYield : Float
-lowestYield = zeroFloat
+lowestYield = fin true 1 (negsuc 0)
 
 abbrev pub highestYield : Float
 highestYield = one
 
--- "yield from 0 to 1"
+-- "A yield now lies from -0.5 to 1"
 abbrev pub yieldInRange : Float → Bool
 yieldInRange y = within lowestYield highestYield y
 
@@ -36,7 +36,7 @@ yieldInRange y = within lowestYield highestYield y
 abbrev pub periodsInRange : ℕ → Bool
 periodsInRange n = leb 1 n && leb n 240
 
--- "Coupon lies from 0 to 100, yield from 0 to 1, ends included", for the rates that each case carries
+-- both ranges, for the rates that each case carries
 abbrev pub termsInRange : Terms → Bool
 termsInRange (Zero y) = yieldInRange y
 termsInRange (Fixed c y) = couponInRange c && yieldInRange y

@@ -110,7 +110,7 @@ fn coupon_in_range(c: f64) -> bool
 fn yield_in_range(y: f64) -> bool
     ensures { λ r. ⌜ r ≡ yieldInRange y ⌝ }
 {
-    (0.0 <= y) & (y <= 1.0)
+    (-0.5 <= y) & (y <= 1.0)
 }
 
 fn terms_in_range(t: Terms) -> bool

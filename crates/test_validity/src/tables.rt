@@ -138,7 +138,8 @@ pub fn sound() -> Table {
     }
 }
 
-// 0 is +0, 1 is -0, 2 the least number below 0, 3 is 1, 4 the next above it, 5 is 100, 6 the next above it, any other a NaN.
+// 0 is +0, 1 is -0, 2 the number next below 0, 3 is 1, 4 the next above it, 5 is 100, 6 the next above it; 8 is the number next below -0.5,
+// 9 is -0.5, 10 the number next above it; any other is a NaN.
 fn rate(value: u8) -> f64 {
     match value {
         0 => 0.0,
@@ -148,6 +149,9 @@ fn rate(value: u8) -> f64 {
         4 => 1.0000000000000002,
         5 => 100.0,
         6 => 100.00000000000001,
+        8 => -0.5000000000000001,
+        9 => -0.5,
+        10 => -0.49999999999999994,
         _ => 0.0 / 0.0,
     }
 }

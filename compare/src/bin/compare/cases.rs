@@ -8,7 +8,7 @@ use crate::inputs::{self, Draft};
 use crate::library::{Library, PAGE_BUFFER};
 use crate::rng::Rng;
 use second::book::{self, Book};
-use second::table::{Table, BYTES};
+use second::table::{Table, BYTES, ENTRIES, PRICED};
 use second::{check, events, isin, page, price};
 
 /// How much was compared (events, tables or inputs), or what differs.
@@ -88,8 +88,25 @@ pub fn term(trial: &mut Trial, rng: &mut Rng) -> Outcome {
         None => (7, before),
     };
     trial.coverage.terms[usize::from(answer.0)] += 1;
+    count_yield(trial, &term);
     same(&format!("term {term:02X?}"), trial.library.term(&term, before), answer)?;
     Ok(1)
+}
+
+/// A term that is accepted with a yield below 0, or that is refused for the yield next below -0.5 alone.
+fn count_yield(trial: &mut Trial, term: &[u8]) {
+    let coverage = &mut trial.coverage;
+    match book::term(term) {
+        Some(bond) => {
+            coverage.count_below_zero("term accepted", (bond.ytm() < 0.0).into());
+            coverage.count_below_zero("term accepted at -0.5", (bond.ytm() == -0.5).into());
+        }
+        None if term.ends_with(&(-0.5f64).next_down().to_le_bytes()) => {
+            let at_end = [&term[..term.len() - 8], &(-0.5f64).to_le_bytes()].concat();
+            coverage.count_below_zero("term refused next below -0.5", book::term(&at_end).is_some().into());
+        }
+        None => {}
+    }
 }
 
 pub fn price(trial: &mut Trial, rng: &mut Rng) -> Outcome {
@@ -99,6 +116,7 @@ pub fn price(trial: &mut Trial, rng: &mut Rng) -> Outcome {
     let library = (trial.library.price_zero(periods, ytm), trial.library.price_fixed(periods, coupon, ytm));
     let second = (price::price_zero(periods, ytm), price::price_fixed(periods, coupon, ytm));
     trial.coverage.prices += 2;
+    trial.coverage.count_below_zero("price", 2 * usize::from((-0.5..0.0).contains(&ytm)));
     same(&what, library, second)?;
     Ok(1)
 }
@@ -115,8 +133,11 @@ pub fn book(trial: &mut Trial, rng: &mut Rng) -> Outcome {
         2 => bytes.extend([0; 31].iter().take(1 + rng.below(31))),
         _ => {}
     }
-    let number = Book::read(&bytes).err().unwrap_or(0);
+    let read = Book::read(&bytes);
+    let number = read.err().unwrap_or(0);
     trial.coverage.books[usize::from(number)] += 1;
+    let low = read.is_ok_and(|book| (0..book.entries).any(|entry| book.bond(entry).ytm() < 0.0));
+    trial.coverage.count_below_zero("book accepted", low.into());
     same(&format!("book {bytes:02X?}"), trial.library.book(&bytes), number)?;
     opened(trial, rng, &bytes)?;
     let events: Vec<u8> = (0..rng.below(12)).map(|_| rng.number(8)).collect();
@@ -183,6 +204,9 @@ pub fn run(trial: &mut Trial, rng: &mut Rng) -> Outcome {
         trial.coverage.answers.count(&event, number);
         trial.coverage.table(&table);
     }
+    let priced = table.bonds.iter().zip(&table.jobs).filter(|(_, job)| job.state == PRICED);
+    let low = priced.filter(|(bond, _)| bond.ytm() < 0.0).count();
+    trial.coverage.count_below_zero("job priced in a run", low);
     extend_list(rng, &mut list, &table);
     same_page(trial, rng, &bytes, &list)?;
     trial.coverage.runs += 1;
@@ -291,6 +315,9 @@ fn one_damaged(trial: &mut Trial, rng: &mut Rng, mut snapshot: Vec<u8>, event: &
     };
     let number = if fault.is_some() { 9 } else { 0 };
     same(&format!("check ({fault:?})"), trial.library.check(&snapshot), number)?;
+    if let Some(table) = &read {
+        count_checked_yield(trial, table, fault.flatten());
+    }
     match (fault, read) {
         (None, Some(mut table)) => {
             trial.coverage.damaged_passed += 1;
@@ -303,6 +330,20 @@ fn one_damaged(trial: &mut Trial, rng: &mut Rng, mut snapshot: Vec<u8>, event: &
             same(&format!("{event:?}"), trial.library.step(&mut snapshot, event), 9)?;
             same_bytes(&format!("{event:?} answered 9"), &snapshot, &before)
         }
+    }
+}
+
+/// A table that passes check 9 with a yield below 0, or that fails it by a term of the yield next below -0.5.
+fn count_checked_yield(trial: &mut Trial, table: &Table, fault: Option<check::Fault>) {
+    let bonds = &table.bonds[..usize::from(table.entries).min(ENTRIES)];
+    let any = |test: fn(f64) -> bool| usize::from(bonds.iter().any(|bond| test(bond.ytm())));
+    match fault {
+        None => trial.coverage.count_below_zero("table passed", any(|ytm| ytm < 0.0)),
+        Some(check::Fault::TermOutOfRange) => {
+            let low = any(|ytm| ytm == (-0.5f64).next_down());
+            trial.coverage.count_below_zero("table refused next below -0.5", low);
+        }
+        _ => {}
     }
 }
 

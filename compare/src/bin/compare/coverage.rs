@@ -33,6 +33,18 @@ const OUTCOMES: [(u8, &[&str]); 9] = [
     (RESULT, &["job changed", "nothing"]),
 ];
 
+/// What is to be met of yields below 0.
+const BELOW_ZERO: [&str; 8] = [
+    "term accepted",
+    "term accepted at -0.5",
+    "term refused next below -0.5",
+    "price",
+    "book accepted",
+    "job priced in a run",
+    "table passed",
+    "table refused next below -0.5",
+];
+
 /// Answers by event code (0: no code of document 01) and number.
 #[derive(Default)]
 pub struct Answers([[u64; 23]; 8]);
@@ -69,6 +81,8 @@ pub struct Coverage {
     pub books: [u64; 23],
     pub opened: [u64; 23],
     pub prices: u64,
+    /// By the names of `BELOW_ZERO`.
+    pub below_zero: BTreeMap<&'static str, u64>,
     pub pages: u64,
     pub longest_page: usize,
     pub runs: u64,
@@ -101,6 +115,13 @@ impl Coverage {
         *self.handled.entry((message.kind, outcome)).or_default() += 1;
     }
 
+    /// Something of `BELOW_ZERO` was met so many times.
+    pub fn count_below_zero(&mut self, name: &'static str, count: usize) {
+        if count > 0 {
+            *self.below_zero.entry(name).or_default() += count as u64;
+        }
+    }
+
     pub fn table(&mut self, table: &Table) {
         self.most_in_flight = self.most_in_flight.max(table.in_flight);
         let largest = table.jobs.iter().map(|job| job.replica).max();
@@ -120,6 +141,10 @@ impl Coverage {
             println!("{name:12} {}", text.join("  "));
         }
         println!("prices       {}", self.prices);
+        println!("yields below 0");
+        for (name, count) in &self.below_zero {
+            println!("  {name:29} {count}");
+        }
         println!(
             "runs         {}; pages {}, the longest of {} bytes",
             self.runs, self.pages, self.longest_page
@@ -158,6 +183,8 @@ impl Coverage {
         let never = outcomes.filter(|outcome| !self.handled.contains_key(outcome));
         missing.extend(never.map(|(kind, outcome)| format!("{} {outcome}", KINDS[usize::from(kind)])));
         missing.extend((1..=7u8).filter(|n| self.books[usize::from(*n)] == 0).map(|n| format!("book {n}")));
+        let never = BELOW_ZERO.iter().filter(|name| !self.below_zero.contains_key(*name));
+        missing.extend(never.map(|name| format!("yield below 0: {name}")));
         if self.most_in_flight < 128 {
             missing.push("128 in flight".into());
         }

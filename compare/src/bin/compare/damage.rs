@@ -4,6 +4,7 @@ use crate::fields;
 use crate::inputs;
 use crate::rng::Rng;
 use second::book;
+use second::price::Terms;
 use second::table::*;
 
 /// One change after which the table still passes check 9 (some are none at all).
@@ -143,11 +144,12 @@ fn reserve_for(rng: &mut Rng, table: &mut Table, message: &Message) {
 
 /// One change that breaks a condition of row 9 which a changed field alone seldom breaks, and no other.
 pub fn targeted(rng: &mut Rng, table: &mut Table) {
-    match rng.below(5) {
+    match rng.below(6) {
         0 => silence(table, 0, true),
         1 => silence(table, 1 + rng.number(table.machines - 1), false),
         2 => misdirect(rng, table),
         3 => overtake(rng, table),
+        4 if table.entries > 0 => pass_an_end(rng, table),
         _ => {
             let (machine, of) = (rng.number(table.machines), rng.number(table.machines));
             table.told[usize::from(machine)][usize::from(of)] = 1;
@@ -172,6 +174,16 @@ fn misdirect(rng: &mut Rng, table: &mut Table) {
     if let (Some(slot), Some(machine)) = (slot, machine) {
         table.messages[usize::from(slot)].to = machine;
     }
+}
+
+/// Some bond's yield becomes the number next beyond an end of its range.
+fn pass_an_end(rng: &mut Rng, table: &mut Table) {
+    let ytm = rng.pick(&[(-0.5f64).next_down(), 1f64.next_up()]);
+    let terms = &mut table.bonds[rng.below(usize::from(table.entries))].terms;
+    *terms = match *terms {
+        Terms::Zero { .. } => Terms::Zero { ytm },
+        Terms::Fixed { coupon, .. } => Terms::Fixed { coupon, ytm },
+    };
 }
 
 /// Some replica number becomes one more than the largest that passes.

@@ -37,7 +37,7 @@ pub fn damage_identifier(rng: &mut Rng, identifier: &mut Vec<u8>) {
 
 /// Any 64 bits, with much weight on the ends of ranges, their neighbours, and every kind of special value.
 pub fn float(rng: &mut Rng) -> f64 {
-    let ends = [0.0, 1.0, 100.0, 2.0, 0.5, 4.0, f64::MIN_POSITIVE, f64::MAX, f64::INFINITY, 5e-324];
+    let ends = [0.0, 1.0, 100.0, 2.0, 0.5, 4.0, 0.25, f64::MIN_POSITIVE, f64::MAX, f64::INFINITY, 5e-324];
     let value = match rng.below(8) {
         0 | 1 => rng.pick(&ends),
         2 => rng.pick(&ends).next_up(),
@@ -47,7 +47,7 @@ pub fn float(rng: &mut Rng) -> f64 {
         6 => f64::from_bits(0x7FF0_0000_0000_0000 | rng.next() >> rng.pick(&[12, 20, 40, 62])),
         _ => f64::from_bits(rng.next()),
     };
-    if rng.chance(1, 6) {
+    if rng.chance(1, 4) {
         -value
     } else {
         value
@@ -57,10 +57,19 @@ pub fn float(rng: &mut Rng) -> f64 {
 /// A rate from 0 to an end, both included; negative zero too.
 pub fn rate(rng: &mut Rng, end: f64) -> f64 {
     match rng.below(8) {
-        0 => rng.pick(&[0.0, -0.0, end, end.next_down(), f64::MIN_POSITIVE, 5e-324]),
+        0 => rng.pick(&[0.0, -0.0, end, end.next_down(), end / 2.0, f64::MIN_POSITIVE, 5e-324]),
         1 => f64::from_bits(rng.next() >> 12),
         2 => end * rng.below(1000) as f64 / 1000.0,
         _ => end * rng.unit(),
+    }
+}
+
+/// A yield from -0.5 to 1, both included; a third of them not above 0.
+pub fn ytm(rng: &mut Rng) -> f64 {
+    if rng.chance(1, 3) {
+        -rate(rng, 0.5)
+    } else {
+        rate(rng, 1.0)
     }
 }
 
@@ -69,7 +78,7 @@ pub fn term(rng: &mut Rng) -> Vec<u8> {
     let kind = 1 + rng.number(2);
     let periods = if rng.chance(1, 8) { rng.pick(&[1, 2, 239, 240]) } else { 1 + rng.number(240) };
     let coupon = if kind == 1 { 0.0 } else { rate(rng, 100.0) };
-    [&[kind, periods, 0][..], &coupon.to_le_bytes(), &rate(rng, 1.0).to_le_bytes()].concat()
+    [&[kind, periods, 0][..], &coupon.to_le_bytes(), &ytm(rng).to_le_bytes()].concat()
 }
 
 /// Changes one field, or the length, to values inside and outside the rules. One of another length stays.
