@@ -1,6 +1,6 @@
 -- The reader of a book as it was before request 2.1, "Yields below zero": old behaviour, which no code has, for the comparison in Kept.antt.
 -- `yieldBefore` is what the request changed. The definitions after it repeat, over it, those of pricer's Range, book_term's Term, and book's Book
--- and Parts. What the request left alone is cited as it is today: the other ranges, numbers of bytes, identifiers, sizes and parts of the book.
+-- and Parts. What the request left alone is cited as it is today: the other ranges, how bytes are read, identifiers, sizes and parts of the book.
 -- Definitions only.
 use Prim.Native.Nat.{ℕ, _+_, _*_}
 use mathlib.Core.Bool.{Bool, not, cond, _&&_}

@@ -16,7 +16,7 @@ use Rattle.book_before.specs.Before.{inRangeBefore, termBefore, verdictB
 
 -- what a book that was accepted gives now
 pub record StillAccepted (s : List ℕ) : Type 0 where
-  -- it "is accepted",
+  -- it is accepted,
   pub verdict : bookVerdict s ≡ 0
   -- with as many entries,
   pub entries : entryCount s ≡ entryCountBefore s
