@@ -123,17 +123,26 @@ def c_prices(texts):
     return [int(line, 16) for line in out.split()]
 
 
+def by_yield(rng, ytms):
+    """Each yield, with a zero and with coupons at random."""
+    for ytm in ytms:
+        yield from (bond(ZERO, n, 0.0, ytm) for n in PERIODS)
+        yield from (bond(FIXED, n, rng.choice(COUPONS), ytm) for n in PERIODS)
+
+
+def at_ends(ytms):
+    for coupon in ENDS_OF_COUPON:
+        yield from (bond(FIXED, n, coupon, ytm) for ytm in ytms for n in (1, 2, 240))
+
+
 def bonds():
     """Terms within the rules of document 01, for their prices."""
     rng = random.Random(240)
     yield from (bond(*example[:4]) for example in EXAMPLES)
-    for ytm in YIELDS:
-        yield from (bond(ZERO, n, 0.0, ytm) for n in PERIODS)
-        yield from (bond(FIXED, n, rng.choice(COUPONS), ytm) for n in PERIODS)
+    yield from by_yield(rng, YIELDS)
     for coupon in COUPONS:
         yield from (bond(FIXED, n, coupon, rng.choice(YIELDS)) for n in PERIODS)
-    for coupon in ENDS_OF_COUPON:
-        yield from (bond(FIXED, n, coupon, ytm) for ytm in ENDS_OF_YIELD for n in (1, 2, 240))
+    yield from at_ends(ENDS_OF_YIELD)
     for n in range(1, 241):
         yield bond(ZERO, n, 0.0, rng.choice([0.0375, 1 / 3, rng.random()]))
         yield bond(FIXED, n, rng.choice([5.125, 100 / 7, 100 * rng.random()]), rng.choice([0.0375, 1 / 3, rng.random()]))
@@ -147,11 +156,8 @@ def bonds_below_0():
     """Terms with the yields that document 02, 2.1, adds."""
     rng = random.Random(21)
     yield from (bond(*example[:4]) for example in BY_HAND)
-    for ytm in YIELDS_BELOW_0:
-        yield from (bond(ZERO, n, 0.0, ytm) for n in PERIODS)
-        yield from (bond(FIXED, n, rng.choice(COUPONS), ytm) for n in PERIODS)
-    for coupon in ENDS_OF_COUPON:
-        yield from (bond(FIXED, n, coupon, ytm) for ytm in ENDS_BELOW_0 for n in (1, 2, 240))
+    yield from by_yield(rng, YIELDS_BELOW_0)
+    yield from at_ends(ENDS_BELOW_0)
     for n in range(1, 241, 3):
         yield bond(ZERO, n, 0.0, rng.choice([-0.0375, -1 / 3, -rng.random() / 2]))
         yield bond(FIXED, n + 1, rng.choice([5.125, 100 / 7, 100 * rng.random()]), rng.choice([-0.0375, -1 / 3, -rng.random() / 2]))
