@@ -1,5 +1,5 @@
--- The value of f at the least index below n where it is not 0, or 0: what a loop finds; where it is 0, so is f at each index; and a g that differs
--- from f only where f is v has the same one, unless that is v. Assumes nothing.
+-- The value of f at the least index below n where it is not 0, or 0: what a loop finds; where it is 0, so is f at each index; a g that is f at each
+-- index has the same one; and so has a g that differs from f only where f is v, unless that is v. Assumes nothing.
 use mathlib.Core.Path.{_≡_, refl, sym, ap, _∙_}
 use mathlib.Core.Logic.{_≢_}
 use mathlib.Core.Bool.{Bool, true, false, not, cond, true≢false}
@@ -55,6 +55,18 @@ module _ (f : ℕ → ℕ) where
       let g : marked i ≡ false = least-before marked n i (omega arith) in
       eqb-true (f i) 0 (not-false _ g))
 
+-- a g that agrees with f up to the least index
+lowest-upto : (f g : ℕ → ℕ) (n : ℕ) → ((i : ℕ) → i ≤ least (marked f) n → i < n → g i ≡ f i) → lowest g n ≡ lowest f n
+lowest-upto f g n h =
+    let k = least (marked f) n in
+    let same : least (marked g) n ≡ k = least-agree (marked f) (marked g) n (λ i l m. ap (λ (x : ℕ). not (eqb x 0)) (h i l m)) in
+    byBool (ltb k n)
+    (λ b. rw (same, b) (h k (le-refl k) (ltb-true k n b)))
+    (λ b. rw (same, b))
+
+pub lowest-same : (f g : ℕ → ℕ) (n : ℕ) → ((i : ℕ) → i < n → g i ≡ f i) → lowest g n ≡ lowest f n
+lowest-same f g n h = lowest-upto f g n (λ i l m. h i m)
+
 pub lowest-agree : (f g : ℕ → ℕ) (v n : ℕ) → v ≢ 0 → ((i : ℕ) → f i ≢ v → g i ≡ f i) → lowest f n ≢ v → lowest g n ≡ lowest f n
 lowest-agree f g v n z h d =
     let k = least (marked f) n in
@@ -62,7 +74,4 @@ lowest-agree f g v n z h d =
     byEq i k
     (λ s. d (rw (lt-ltb k n (rw (← s) m), ← s) e))
     (λ s. z (sym e ∙ eqb-true (f i) 0 (not-false _ (least-before (marked f) n i (omega arith))))) in
-    let same : least (marked g) n ≡ k = least-agree (marked f) (marked g) n (λ i l m. ap (λ (x : ℕ). not (eqb x 0)) (h i (other i l m))) in
-    byBool (ltb k n)
-    (λ b. rw (same, b) (h k (other k (le-refl k) (ltb-true k n b))))
-    (λ b. rw (same, b))
+    lowest-upto f g n (λ i l m. h i (other i l m))
