@@ -9,7 +9,7 @@ static const uint8_t BOOK[4 + 2 * 31] = {
     2, 0, 2, 0,
     'Z', 'Z', '0', '0', '0', '0', '0', '0', '0', '0', '1', '6',
     'Z', 'Z', '0', '0', '0', '0', '0', '0', '0', '0', '2', '4',
-    /* fixed, 2 periods, coupon 4, yield 0 */
+    /* fixed, 2 periods, coupon 4, yield 0; the third byte, 0, is two payments a year */
     2, 2, 0, 0, 0, 0, 0, 0, 0, 0x10, 0x40, 0, 0, 0, 0, 0, 0, 0, 0,
     /* zero, 2 periods, yield 0.5 */
     1, 2, 0, 0, 0, 0, 0, 0, 0, 0, 0, 0, 0, 0, 0, 0, 0, 0xe0, 0x3f,
@@ -52,12 +52,12 @@ static int whole_page(void)
 
 static int one_price(void)
 {
-    /* coupon 4, yield 0, 2 periods: 104 */
-    uint64_t bits = rakhvide_price_fixed(2, 4.0, 0.0);
+    /* coupon 20, yield 1, 1 period, 4 payments a year: (100 + 5) / 1.25 */
+    uint64_t bits = rakhvide_price_fixed(1, 4, 20.0, 1.0);
     double price;
     memcpy(&price, &bits, sizeof price);
-    printf("coupon 4, yield 0, 2 periods: %g\n", price);
-    return price != 104.0;
+    printf("coupon 20, yield 1, 1 period, 4 payments a year: %g\n", price);
+    return price != 84.0;
 }
 
 int main(void)

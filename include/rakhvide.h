@@ -23,8 +23,8 @@ extern "C" {
 /* No page is longer: the length that rakhvide_page asks of its buffer. */
 #define RAKHVIDE_PAGE 463072
 
-/* The length of a snapshot. */
-#define RAKHVIDE_TABLE 5171
+/* The length of a snapshot. One of another length, as those kept before request 2.3 are (5171 bytes), is no table: docs/LAYOUT.md. */
+#define RAKHVIDE_TABLE 5235
 
 /* An identifier by ISO 6166: 0, or 4 for its form (another length than 12 too), or 5 for its check digit. */
 uint8_t rakhvide_identifier(const uint8_t *identifier, size_t length);
@@ -32,13 +32,15 @@ uint8_t rakhvide_identifier(const uint8_t *identifier, size_t length);
 /* A book: 0, or the number of its refusal, 1 to 7. */
 uint8_t rakhvide_book(const uint8_t *book, size_t length);
 
-/* A term of the book, 19 bytes: 0, and *bits are the 64 bits of its bond's price; or 7, and *bits stay (they are read, and written back). */
+/* A term of the book, 19 bytes: 0, and *bits are the 64 bits of its bond's price; or 7, and *bits stay (they are read, and written back).
+ * Its third byte is the payments per year: 1, 2, 4 or 12, and 0 reads as 2; any other is 7. */
 uint8_t rakhvide_term(const uint8_t *term, size_t length, uint64_t *bits);
 
-/* The 64 bits of a price, of any arguments: half-years, annual coupon per 100 of face, annual yield as a fraction.
+/* The 64 bits of a price, of any arguments: periods, which count payments; payments per year; annual coupon per 100 of face;
+ * annual yield as a fraction. It is the formula with the number of payments as given: 0 is not read as 2, which is the rule of a book's byte.
  * A price that is a NaN, which no term of a book gives, has the bits 7FF8000000000000. */
-uint64_t rakhvide_price_zero(uint8_t periods, double yield);
-uint64_t rakhvide_price_fixed(uint8_t periods, double coupon, double yield);
+uint64_t rakhvide_price_zero(uint8_t periods, uint8_t payments, double yield);
+uint64_t rakhvide_price_fixed(uint8_t periods, uint8_t payments, double coupon, double yield);
 
 /* The page of a book and a list of events, three bytes each, of which at most 60,000 bytes count.
  * true: the page is the first *written bytes of out, and the rest of out is as it was.

@@ -6,10 +6,12 @@
 
 It needs Python 3.10 or later, and its standard library only.
 
-The CSV has the header identifier,kind,periods,coupon,yield and then a row for each bond. The kind is zero or fixed, the
-periods are half-years, the coupon is a year's per 100 of face (empty or 0 for a zero), the yield is a year's as a fraction,
-from -0.5 to 1. Rates are decimal texts, read as Python's float() reads them, but without its underscores and digits of other
-scripts. A text of more than 4,000,000 bytes is not read.
+The CSV has the header identifier,kind,periods,payments,coupon,yield and then a row for each bond. The kind is zero or fixed.
+The payments are those of a year: 1, 2, 4 or 12, and an empty cell is 2; for a zero they say how often the yield is compounded.
+A file without this column has two payments a year throughout. The periods count payments, 1 to 240: a bond of ten years has 10,
+20, 40 or 120 of them. The coupon is a year's per 100 of face (empty or 0 for a zero), the yield is a year's as a fraction, from
+-0.5 to 1. Rates are decimal texts, read as Python's float() reads them, but without its underscores and digits of other scripts.
+A text of more than 4,000,000 bytes is not read.
 
 A row whose first mark is # is a comment; the comment "# machines 4" states the machine count. Small and capital letters, a colon
 or an equals sign after the word, and the number in the next cell are read too ("#Machines: 4", "# machines,4"). Any other
@@ -20,14 +22,14 @@ make writes nothing where the book would be refused, and names the faulty cells,
 counted as a spreadsheet counts them, the header among them, and docs/PROTOCOL.md, "The numbers", has what a number means. A
 cell without a meaning, as a kind that is no word of the list, has no number. Of more than 20 faults the first 20 are named; of
 more than 64 bonds none is looked at. --anyway writes the faulty book all the same, as far as it has a place for what the cells
-say: a kind is then a number from 0 to 255 too, and an identifier is filled with spaces or cut to 12 bytes.
+say: a kind is then a number from 0 to 255 too, so are the payments, and an identifier is filled with spaces or cut to 12 bytes.
 
 A rate that the rules accept may still be in the other unit. make writes the book and warns of a coupon above 0 and below 0.25,
 which may be meant as a fraction, and of a yield below -0.01 or above 0.5, which may be meant in percent. It warns of a book
 without bonds too.
 
-show prints the CSV of a book, from which make makes the same bytes again where the book is accepted. A refused book may have
-bytes that a CSV does not hold, as a spare byte that is not 0.
+show prints the CSV of a book, from which make makes the same bytes again where the book is accepted; the column of payments is
+there where a bond states them. A refused book may have bytes that a CSV does not hold, as an identifier that is no text.
 
 The exit status is 0 where the book is written or shown, by --anyway a faulty one too; 1 where a file cannot be read or
 written, or where all that is wrong is text without a meaning; 2 for a wrong command; 3 where the book is refused or would be;
@@ -45,7 +47,8 @@ import book_bytes as books
 import desk
 from book_bytes import Entry, Fault
 
-COLUMNS = ["identifier", "kind", "periods", "coupon", "yield"]
+COLUMNS = ["identifier", "kind", "periods", "payments", "coupon", "yield"]
+NEEDED = [column for column in COLUMNS if column != "payments"]
 KINDS = {"zero": books.ZERO, "fixed": books.FIXED}
 MACHINES = 4  # where nothing else is stated
 LEAST_COUPON, MOST_YIELD = 0.25, 0.5  # beyond which a rate may be in the other unit
@@ -61,19 +64,19 @@ T = typing.TypeVar("T")
 
 
 def read_csv(text: str) -> Rows:
-    """The rows that state something."""
+    """The rows that have a cell which is not empty."""
     reader = csv.reader(io.StringIO(text, newline=""), strict=True)
     try:
         rows = list(enumerate(reader, 1))
     except csv.Error as fault:
         raise desk.Stop(f"not a CSV file: line {reader.line_num}: {fault}") from None
-    return [(number, without_end(row)) for number, row in rows if any(cell.strip() for cell in row)]
+    return [(number, row) for number, row in rows if any(cell.strip() for cell in row)]
 
 
-def without_end(row: list[str]) -> list[str]:
+def without_end(row: list[str], columns: list[str]) -> list[str]:
     """Without the empty cells after the last other one, as far as they go beyond the columns."""
     last = max(place for place, cell in enumerate(row, 1) if cell.strip())
-    return row[:max(last, len(COLUMNS))]
+    return row[:max(last, len(columns))]
 
 
 def stated_machines(rows: Rows) -> tuple[int | None, list[Fault]]:
@@ -104,29 +107,32 @@ def is_of_machines(comment: str) -> bool:
     return bool(re.match(r"#\s*machines", comment) or re.search(r"(?<![a-z])machines?(?![a-z])", comment) and re.search(r"\d", comment))
 
 
-def without_header(rows: Rows) -> Rows:
+def with_columns(rows: Rows) -> tuple[list[str], Rows]:
+    """The columns that the header names, and the rows after it."""
     rows = [(number, row) for number, row in rows if not is_comment(row)]
     header = ",".join(COLUMNS)
     if not rows:
         raise desk.Stop(f"the header {header} is missing, and so is every other row")
-    number, first = rows[0]
+    number, first = rows[0][0], without_end(rows[0][1], [])
     cells = [cell.strip().lower() for cell in first]
-    if cells != COLUMNS:
+    columns = COLUMNS if "payments" in cells else NEEDED
+    if cells != columns:
         found = desk.quoted(",".join(first))
-        raise desk.Stop(f"row {number}: {found} is not the header {header}: {why_no_header(cells)}")
-    return rows[1:]
+        raise desk.Stop(f"row {number}: {found} is not the header {header}, of which payments may be left out: {why_no_header(cells, columns)}")
+    return columns, [(number, without_end(row, columns)) for number, row in rows[1:]]
 
 
-def why_no_header(cells: list[str]) -> str:
-    missing = [column for column in COLUMNS if column not in cells]
+def why_no_header(cells: list[str], columns: list[str]) -> str:
+    missing = [column for column in columns if column not in cells]
     if parted_otherwise(cells):
         return parted_otherwise(cells)
-    if len(missing) == len(COLUMNS):
+    if len(missing) == len(columns):
         return "it has none of the columns"
     if missing:
         return "it has no " + " and no ".join(missing)
-    place = next((i for i, column in enumerate(COLUMNS) if cells[i] != column), len(COLUMNS))
-    expected = COLUMNS[place] + " is expected there" if place < len(COLUMNS) else f"there are {len(COLUMNS)} columns"
+    place = next((i for i, column in enumerate(columns) if cells[i] != column), len(columns))
+    names = "payments or coupon" if columns == NEEDED and place == COLUMNS.index("payments") else "".join(columns[place:place + 1])
+    expected = names + " is expected there" if names else f"there are {len(columns)} columns"
     return f"column {place + 1} is {desk.quoted(cells[place])}, and {expected}"
 
 
@@ -143,15 +149,16 @@ class Row:
     can be held against them.
     """
 
-    def __init__(self, number: int, row: list[str], anyway: bool) -> None:
-        self.number, self.cells = number, dict(zip(COLUMNS, row))
+    def __init__(self, number: int, cells: dict[str, str], anyway: bool) -> None:
+        self.number, self.cells = number, cells
         self.faults: list[Fault] = []
         bare = not self.cells["coupon"].strip()
         likely = books.ZERO if bare else books.FIXED
         kind = self.read("kind", lambda text: kind_of(text, anyway), "is neither zero nor fixed", likely)
         periods = self.read("periods", whole, "is not a whole number", 1)
         coupon = 0.0 if bare and kind == books.ZERO else self.read_rate("coupon")
-        self.entry = Entry(self.cells["identifier"].encode("utf-8"), kind, periods, 0, coupon, self.read_rate("yield"))
+        payments = self.read_payments(anyway)
+        self.entry = Entry(self.cells["identifier"].encode("utf-8"), kind, periods, payments, coupon, self.read_rate("yield"))
 
     def read(self, column: str, meaning: collections.abc.Callable[[str], T], fault: str, accepted: T) -> T:
         text = self.cells[column]
@@ -161,6 +168,15 @@ class Row:
             shown = desk.quoted(text) if text.strip() else "an empty cell"
             self.faults.append(Fault(None, self.number, column, f"{shown} {fault}{desk.strange(text)}"))
             return accepted
+
+    def read_payments(self, anyway: bool) -> int:
+        """The byte, which is 0 where nothing is stated. A cell of 0 states no payments, and not two: it has no meaning."""
+        if not self.cells.get("payments", "").strip():
+            return 0
+        payments = self.read("payments", whole, "is not a whole number", 2)
+        if payments == 0 and not anyway:
+            self.faults.append(Fault(None, self.number, "payments", books.no_payments("0")))
+        return payments
 
     def read_rate(self, column: str) -> float:
         hint = rate_hint(column, self.cells[column].strip())
@@ -213,16 +229,16 @@ def plain(text: str) -> str:
     return text
 
 
-def read_rows(rows: Rows, anyway: bool) -> tuple[list[Row], list[Fault]]:
+def read_rows(columns: list[str], rows: Rows, anyway: bool) -> tuple[list[Row], list[Fault]]:
     """The rows that have the header's length, and the faults of the others and of cells without a meaning."""
-    read = [Row(number, row, anyway) for number, row in rows if len(row) == len(COLUMNS)]
-    found = [Fault(None, number, None, length_text(row)) for number, row in rows if len(row) != len(COLUMNS)]
+    read = [Row(number, dict(zip(columns, row)), anyway) for number, row in rows if len(row) == len(columns)]
+    found = [Fault(None, number, None, length_text(row, len(columns))) for number, row in rows if len(row) != len(columns)]
     return read, found + [fault for row in read for fault in row.faults]
 
 
-def length_text(row: list[str]) -> str:
-    more = f"; {POINT}" if len(row) > len(COLUMNS) else ""
-    return parted_otherwise(row) or f"{desk.plural(len(row), 'cell')}, and the header has {len(COLUMNS)}{more}"
+def length_text(row: list[str], length: int) -> str:
+    more = f"; {POINT}" if len(row) > length else ""
+    return parted_otherwise(row) or f"{desk.plural(len(row), 'cell')}, and the header has {length}{more}"
 
 
 # Faults as messages.
@@ -236,7 +252,7 @@ def told(fault: Fault) -> str:
 
 def place(fault: Fault) -> tuple[int, int]:
     """For the order of the lines: the sizes, then row by row and from left to right."""
-    return fault.row or 0, [None, *COLUMNS, "spare"].index(fault.column)
+    return fault.row or 0, [None, *COLUMNS].index(fault.column)
 
 
 def refuse(found: list[Fault]) -> None:
@@ -255,14 +271,14 @@ class Sheet:
     def __init__(self, text: str) -> None:
         rows = read_csv(text)
         self.machines, self.faults = stated_machines(rows)
-        self.rows = without_header(rows)
+        self.columns, self.rows = with_columns(rows)
 
     def book(self, machines: int | None = None, anyway: bool = False) -> tuple[bytes, list[Fault]]:
         """The bytes of the book, and the doubts about its rates."""
         machines = next(count for count in (machines, self.machines, MACHINES) if count is not None)
         if not anyway and len(self.rows) > books.MOST_ENTRIES:
             refuse([*self.faults, *books.size_faults(machines, len(self.rows))])
-        read, found = read_rows(self.rows, anyway)
+        read, found = read_rows(self.columns, self.rows, anyway)
         stated = [row.stated() for row in read]
         rules = books.place_faults(machines, stated) if anyway else [*books.size_faults(machines, len(read)), *books.entry_faults(stated)]
         refuse([*self.faults, *found, *rules])
@@ -280,9 +296,11 @@ def show(book: bytes) -> str:
     out = io.StringIO(newline="")
     writer = csv.writer(out, lineterminator="\n")
     out.write(f"# machines {machines}\n")
-    writer.writerow(COLUMNS)
+    columns = COLUMNS if any(entry.payments for entry in entries) else NEEDED
+    writer.writerow(columns)
     for entry in entries:
-        writer.writerow([shown_identifier(entry.identifier), *shown_term(entry)])
+        cells = shown_cells(entry)
+        writer.writerow([cells[column] for column in columns])
     return out.getvalue()
 
 
@@ -291,10 +309,14 @@ def shown_identifier(identifier: bytes) -> str:
     return "".join(chr(byte) if 32 <= byte < 127 else f"\\x{byte:02x}" for byte in identifier)
 
 
-def shown_term(entry: Entry) -> tuple[str, int, str, str]:
-    kind = {number: name for name, number in KINDS.items()}.get(entry.kind, str(entry.kind))
-    bare = entry.kind == books.ZERO and books.is_bare(entry)
-    return kind, entry.periods, "" if bare else repr(entry.coupon), repr(entry.ytm)
+def shown_cells(entry: Entry) -> dict[str, str]:
+    cells = {"identifier": shown_identifier(entry.identifier), **books.texts_of(entry)}
+    cells["kind"] = {number: name for name, number in KINDS.items()}.get(entry.kind, cells["kind"])
+    if entry.payments == 0:
+        cells["payments"] = ""
+    if entry.kind == books.ZERO and books.is_bare(entry):
+        cells["coupon"] = ""
+    return cells
 
 
 # The commands.

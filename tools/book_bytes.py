@@ -15,10 +15,11 @@ import desk
 ZERO, FIXED = 1, 2  # the kinds
 MOST_ENTRIES = 64
 SIZES = struct.Struct("<HH")  # machine count, entry count
-TERM = struct.Struct("<BBBdd")  # kind, periods, spare, coupon, yield
+TERM = struct.Struct("<BBBdd")  # kind, periods, payments per year, coupon, yield
 MOST_BYTES = 4 + 31 * MOST_ENTRIES
 MOST_SIZE, MOST_BYTE = 0xFFFF, 0xFF  # that there is a place for
 LOWEST_YIELD, HIGHEST_YIELD = -0.5, 1.0  # "A yield now lies from -0.5 to 1, ends included" (document 02, 2.1)
+A_YEAR = {0: 2, 1: 1, 2: 2, 4: 4, 12: 12}  # "the payments per year: 1, 2, 4 or 12, and 0 reads as 2" (document 02, 2.3)
 LETTERS, DIGITS = (string.ascii_uppercase, "A to Z"), (string.digits, "0 to 9")
 EITHER = (LETTERS[0] + DIGITS[0], "A to Z or 0 to 9")
 FORM = [LETTERS] * 2 + [EITHER] * 9 + [DIGITS]  # of an identifier: for each place the characters, and how they are called
@@ -29,10 +30,15 @@ SHOWN_ROWS = range(3, 3 + MOST_ENTRIES)  # of the entries as book.py shows them,
 class Entry(typing.NamedTuple):
     identifier: bytes
     kind: int
-    periods: int
-    spare: int
+    periods: int  # they count payments; a zero has one, at the end of the last
+    payments: int  # the byte
     coupon: float
     ytm: float
+
+    @property
+    def a_year(self) -> int:
+        """The payments per year that an accepted entry's byte stands for."""
+        return A_YEAR[self.payments]
 
 
 class Stated(typing.NamedTuple):
@@ -106,7 +112,8 @@ def identifier_hint(meant: str, rows: dict[bytes, int], row: int) -> str:
 
 def texts_of(entry: Entry) -> dict[str, str]:
     """Where no cell states them."""
-    return {"kind": str(entry.kind), "periods": str(entry.periods), "coupon": repr(entry.coupon), "yield": repr(entry.ytm)}
+    return {"kind": str(entry.kind), "periods": str(entry.periods), "payments": str(entry.payments),
+            "coupon": repr(entry.coupon), "yield": repr(entry.ytm)}
 
 
 def shifted(text: str, places: int) -> str:
@@ -129,14 +136,18 @@ def term_faults(entry: Entry, texts: dict[str, str]) -> collections.abc.Iterator
         yield "kind", f"{shown['kind']} is neither 1 (zero) nor 2 (fixed)"
     if not 1 <= entry.periods <= 240:
         yield "periods", f"{shown['periods']} is outside 1 to 240"
-    if entry.spare != 0:
-        yield "spare", f"the spare byte is {entry.spare}, not 0"
+    if entry.payments not in A_YEAR:
+        yield "payments", no_payments(shown["payments"])
     if not 0 <= entry.coupon <= 100:
         yield "coupon", f"{shown['coupon']} is outside 0 to 100"
     elif entry.kind == ZERO and not is_bare(entry):
         yield "coupon", f"a zero has no coupon, and this is {shown['coupon']}"
     if not LOWEST_YIELD <= entry.ytm <= HIGHEST_YIELD:
         yield "yield", f"{shown['yield']} is outside {LOWEST_YIELD:g} to {HIGHEST_YIELD:g}{percent_hint('yield', texts['yield'], entry.ytm)}"
+
+
+def no_payments(text: str) -> str:
+    return f"{text} is none of 1, 2, 4 and 12 payments a year; an empty cell is 2"
 
 
 def percent_hint(column: str, text: str, number: float) -> str:
@@ -175,7 +186,7 @@ def place_faults(machines: int, stated: list[Stated]) -> collections.abc.Iterato
         if not 0 <= size <= MOST_SIZE:
             yield Fault(None, None, None, f"{name}: {digits_of(size)} does not fit into its place, which takes 0 to {MOST_SIZE}")
     for row, entry, texts in stated:
-        for column, number in (("kind", entry.kind), ("periods", entry.periods)):
+        for column, number in (("kind", entry.kind), ("periods", entry.periods), ("payments", entry.payments)):
             if not 0 <= number <= MOST_BYTE:
                 text = f"{desk.shortened(texts[column])} does not fit into its place, which takes 0 to {MOST_BYTE}"
                 yield Fault(None, row, column, text)

@@ -5,9 +5,10 @@ To run, at the root of the repository: /usr/bin/python3 tools/make_book_cases.py
 It needs Python's standard library only (last run with Python 3.11).
 
 The functions of the first part implement document 01's "The book", "The identifier" and "The price", and the rows Book and Lowest faulty
-entry of its table of refusals, with the yields of document 02, 2.1. They share nothing with the crates, nor with book_bytes.py of the
-desk's tools, which has the same rules: what they decide tests both (test_desk.py for the latter), and no reading of the two documents
-tests itself. Each case that is not random has its number stated beside it; the script fails where these functions have another.
+entry of its table of refusals, with the yields of document 02, 2.1, and the payments per year of 2.3. They share nothing with the crates,
+nor with book_bytes.py of the desk's tools, which has the same rules: what they decide tests both (test_desk.py for the latter), and no
+reading of the two documents tests itself. Each case that is not random has its number stated beside it; the script fails where these
+functions have another.
 
 The result depends on nothing else: the random choices have a fixed seed.
 """
@@ -23,10 +24,11 @@ MOST = 65536  # bytes that the program reads of a file
 NUMBERS = [0, 1, 2, 3, 4, 5, 6, 7]  # accepted, and the refusals of a book
 TOO_LARGE = 11  # the number of an entry number of n or more
 
-# Document 01, and of document 02 the range of a yield.
+# Document 01, and of document 02 the range of a yield and the payments per year.
 
 FORM = re.compile(rb"[A-Z]{2}[A-Z0-9]{9}[0-9]")
 DOUBLED = [0, 2, 4, 6, 8, 1, 3, 5, 7, 9]
+A_YEAR = {1: 1, 2: 2, 4: 4, 12: 12, 0: 2}  # "the payments per year: 1, 2, 4 or 12, and 0 reads as 2" (document 02, 2.3)
 
 
 def total_of(base):
@@ -43,8 +45,8 @@ def identifier_fault(text):
 
 def is_term(text):
     """A NaN fails each comparison, and negative zero equals 0. "A yield now lies from -0.5 to 1, ends included" (document 02, 2.1)."""
-    kind, periods, spare, coupon, ytm = struct.unpack("<BBBdd", text)
-    if kind not in (1, 2) or not 1 <= periods <= 240 or spare != 0:
+    kind, periods, payments, coupon, ytm = struct.unpack("<BBBdd", text)
+    if kind not in (1, 2) or not 1 <= periods <= 240 or payments not in A_YEAR:
         return False
     if not (0 <= coupon <= 100 and -0.5 <= ytm <= 1):
         return False
@@ -88,12 +90,15 @@ def identifier_of(book, i):
 
 
 def price_of(term):
-    """Python's float is a binary64, and each operation on it is rounded once."""
-    kind, periods, _, coupon, ytm = struct.unpack("<BBBdd", term)
-    d = 1 + ytm / 2
+    """Python's float is a binary64, and each operation on it is rounded once.
+
+    "Both divisions by 2 in the formula become divisions by that number, also for a zero" (document 02, 2.3).
+    """
+    kind, periods, payments, coupon, ytm = struct.unpack("<BBBdd", term)
+    d = 1 + ytm / A_YEAR[payments]
     p = 100.0
     for _ in range(periods):
-        p = (p + coupon / 2) / d if kind == 2 else p / d
+        p = (p + coupon / A_YEAR[payments]) / d if kind == 2 else p / d
     return p
 
 
@@ -113,8 +118,8 @@ def name(i):
     return with_check_digit("ZZ%09d" % (i + 1))
 
 
-def term(kind=2, periods=2, coupon=4.0, ytm=0.0, spare=0):
-    return struct.pack("<BBBdd", kind, periods, spare, coupon, ytm)
+def term(kind=2, periods=2, coupon=4.0, ytm=0.0, payments=0):
+    return struct.pack("<BBBdd", kind, periods, payments, coupon, ytm)
 
 
 def plain_term(i):
@@ -156,13 +161,14 @@ DIGIT_FAULTS = [b"ZZ000000001" + d.encode("ascii") for d in DIGITS if d != "6"] 
 TERM_FAULTS = [
     term(kind=0), term(kind=3), term(kind=255), term(kind=0, coupon=0.0), term(kind=3, coupon=0.0),
     term(periods=0), term(periods=241), term(periods=255), term(1, 0, 0.0), term(1, 241, 0.0),
-    term(spare=1), term(spare=255), term(1, 2, 0.0, 0.5, spare=1),
+    term(payments=1), term(payments=255), term(1, 2, 0.0, 0.5, payments=1),
     term(coupon=-TINY), term(coupon=math.nextafter(100.0, math.inf)), term(coupon=-4.0), term(coupon=math.inf),
     term(coupon=-math.inf), term(coupon=NAN), term(coupon=-NAN),
     LOW_TERM, term(ytm=math.nextafter(1.0, 2.0)), term(ytm=-1.0), term(ytm=math.inf), term(ytm=-math.inf), term(ytm=NAN),
     term(1, 2, 0.0, TOO_LOW), term(1, 2, 0.0, math.nextafter(1.0, 2.0)), term(1, 2, 0.0, NAN), term(1, 2, 0.0, -NAN),
     term(1, 2, -0.0), term(1, 2, TINY), term(1, 2, 4.0), term(1, 2, NAN), term(1, 2, 0.0, -1.0),
 ]
+ONCE_A_YEAR = [term(payments=1), term(1, 2, 0.0, 0.5, payments=1)]  # of the list above; accepted by document 02, 2.3
 GOOD_TERMS = [
     term(periods=1), term(periods=240), term(1, 1, 0.0), term(1, 240, 0.0), term(coupon=0.0), term(coupon=-0.0), term(coupon=100.0),
     term(coupon=TINY), term(ytm=0.0), term(ytm=-0.0), term(ytm=1.0), term(ytm=TINY), term(ytm=0.5), term(1, 2, 0.0, 0.5),
@@ -236,7 +242,7 @@ def faults():
     for i in (0, 1):
         yield from ((4, with_parts(2, names={i: text})) for text in FORM_FAULTS)
         yield from ((5, with_parts(2, names={i: text})) for text in DIGIT_FAULTS)
-        yield from ((7, with_parts(2, terms={i: text})) for text in TERM_FAULTS)
+        yield from ((0 if text in ONCE_A_YEAR else 7, with_parts(2, terms={i: text})) for text in TERM_FAULTS)
         yield from ((0, with_parts(2, terms={i: text})) for text in GOOD_TERMS)
     yield 0, book(GOOD_NAMES[:6], GOOD_TERMS[:6])
     yield 0, book(GOOD_NAMES, GOOD_TERMS[:7], 16)
@@ -288,6 +294,43 @@ def pairs():
         yield 0, with_parts(2, {1: other})
         yield 6, with_parts(3, {1: other, 2: other})
     yield 0, with_parts(2, {0: with_check_digit("ZZ000000090"), 1: with_check_digit("ZZ000000009")})  # the same check digit
+
+
+def paid(kind, payments, periods=2):
+    """A term whose price depends on the payments."""
+    return term(kind, periods, 6.0 if kind == 2 else 0.0, 0.05, payments)
+
+
+def every_third_byte():
+    """In a book of one entry, with a fixed coupon and, near those that are allowed, as a zero."""
+    for byte in range(256):
+        number = 0 if byte in (0, 1, 2, 4, 12) else 7
+        yield number, with_parts(1, terms={0: paid(2, byte)})
+        if byte < 16 or byte in (24, 52, 128, 252, 255):
+            yield number, with_parts(1, terms={0: paid(1, byte)})
+
+
+def payments():
+    """The payments per year of document 02, 2.3."""
+    yield from every_third_byte()
+    for i in range(3):
+        yield 7, with_parts(3, terms={i: paid(2, 3)})
+        yield 0, with_parts(3, terms={i: paid(2, 12), (i + 1) % 3: paid(1, 4), (i + 2) % 3: paid(2, 1)})
+    for first in range(5):  # the entries that are asked about have each of the five
+        terms = [paid(1 + (i + first) % 2, list(A_YEAR)[(i + first) % 5], i + 1) for i in range(64)]
+        yield 0, book(list(map(name, range(64))), terms, 16)
+    yield 7, with_parts(64, terms={63: paid(1, 6)})
+    for allowed in (1, 2, 4, 12):
+        for kind, low, high in ((1, 0.0, 0.0), (2, 0.0, 100.0)):
+            yield 0, with_parts(2, terms={0: term(kind, 240, high, -0.5, allowed), 1: term(kind, 1, low, 1.0, allowed)})
+            yield 7, with_parts(2, terms={0: term(kind, 241, high, -0.5, allowed)})
+            yield 7, with_parts(2, terms={1: term(kind, 240, high, TOO_LOW, allowed)})
+        yield 7, with_parts(2, terms={0: term(1, 2, -0.0, 0.05, allowed)})
+        yield 5, with_parts(2, {1: BAD_DIGIT}, {0: paid(2, allowed)})  # 7 while the third byte had to be 0
+    for number, text in ((4, BAD_FORM), (5, BAD_DIGIT), (6, name(0))):
+        yield number, with_parts(3, {1: text}, {1: paid(2, 3)})  # two faults in one entry
+        yield number, with_parts(3, {1: text}, {2: paid(2, 3)})
+        yield 7, with_parts(3, {2: text}, {1: paid(2, 3)})
 
 
 def random_name(rng):
@@ -357,8 +400,24 @@ def random_book(rng, sizes, end):
 def random_books():
     rng = random.Random(31)
     texts = [random_book(rng, [0, 1, 2, 3, 4, 5, 6, 8, 12], 1) for _ in range(220)]
-    texts += [random_book(rng, [1, 2, 3], -0.5) for _ in range(16)]  # the file has little room for more
-    yield from ((number_of(text), text) for text in texts)
+    texts += [random_book(rng, [1, 2, 3], -0.5) for _ in range(16)]
+    return [(number_of(text), text) for text in texts]
+
+
+def with_third_bytes(rng, text):
+    """A book with other third bytes, most of them allowed."""
+    text = bytearray(text)
+    for at in range(4 + 12 * text[2] + 2, len(text), 19):
+        text[at] = rng.choice([0, 1, 2, 4, 12] if rng.random() < 0.9 else range(256))
+    return bytes(text)
+
+
+def random_payments():
+    rng = random.Random(23)
+    for end in (1, -0.5):
+        for _ in range(12):
+            text = with_third_bytes(rng, random_book(rng, [1, 2, 3, 4], end))
+            yield number_of(text), text
 
 
 # The files.
@@ -409,9 +468,14 @@ def main():
     fail_unless(name(0) == b"ZZ0000000016" and name(1) == b"ZZ0000000024", "the identifiers of document 01")
     for bond, price in ((term(), 104.0), (term(1, 2, 0.0, 0.5), 64.0), (term(2, 1, 10.0, 0.5), 84.0)):
         fail_unless(price_of(bond) == price, "the prices of document 01")
+    for bond, price in ((term(1, 1, 0.0, -0.5, 1), 200.0), (term(2, 1, 20.0, 1.0, 4), 84.0), (term(2, 2, 12.0, 0.0, 12), 102.0)):
+        fail_unless(price_of(bond) == price, "prices by hand, no step of which is rounded")
+    fail_unless(len({price_of(paid(kind, k)) for kind in (1, 2) for k in (1, 2, 4, 12)}) == 8, "payments that do not tell in the price")
     fail_unless(len({price_of(plain_term(i)) for i in range(64)}) == 64, "two plain terms of one price")
+    *most, last = random_books()  # random.bin has no room for the last one
     lines = []
-    for file, cases in (("sizes.bin", sizes()), ("faults.bin", faults()), ("pairs.bin", pairs()), ("random.bin", random_books())):
+    for file, cases in (("sizes.bin", sizes()), ("faults.bin", faults()), ("pairs.bin", pairs()), ("random.bin", most),
+                        ("payments.bin", [*payments(), last, *random_payments()])):
         lines += write_file(file, list(cases))
     (CRATE / "stdout").write_text("\n".join(lines) + "\n")
     print("\n".join(lines))

@@ -4,10 +4,10 @@
 To run, at the root of the repository: /usr/bin/python3 tools/make_price_vectors.py
 It needs: apt-get install gcc (last run with 12.2 and Python 3.11 of Debian 12)
 
-Whether a term is within the rules of document 01, "The book", with the yields of document 02, 2.1, is decided here by struct
-and comparisons of floats. The price of a bond, by document 01, "The price", is computed twice: by price_vectors.c, a loop in
-the machine's binary64 arithmetic, and here in exact rational arithmetic whose every operation is rounded once to the nearest
-binary64, ties to even. The script fails where the two differ in any bit.
+Whether a term is within the rules of document 01, "The book", with the yields of document 02, 2.1, and the payments per year
+of 2.3, is decided here by struct and comparisons of floats. The price of a bond, by document 01, "The price", and document 02,
+2.3, is computed twice: by price_vectors.c, a loop in the machine's binary64 arithmetic, and here in exact rational arithmetic
+whose every operation is rounded once to the nearest binary64, ties to even. The script fails where the two differ in any bit.
 
 The result depends on nothing else: the random choices have a fixed seed.
 """
@@ -24,11 +24,20 @@ from vector_files import fail_unless, write_file, write_stdout
 
 ZERO, FIXED = 1, 2  # the two kinds
 REFUSED = 7  # the number of a term outside the rules
+# "The spare byte of a term becomes the payments per year: 1, 2, 4 or 12, and 0 reads as 2" (document 02, 2.3).
+PAYMENTS = {0: 2, 1: 1, 2: 2, 4: 4, 12: 12}
 
 # The examples of document 01: kind, periods, coupon, yield and the price, which must come out so.
 EXAMPLES = [(FIXED, 2, 4.0, 0.0, 104.0), (ZERO, 2, 0.0, 0.5, 64.0), (FIXED, 1, 10.0, 0.5, 84.0)]
 # The same for yields below 0, worked out by hand: no step of these is rounded.
 BY_HAND = [(FIXED, 1, 10.0, -0.25, 120.0), (FIXED, 1, 100.0, -0.5, 200.0), (FIXED, 2, 62.5, -0.5, 275.0), (ZERO, 1, 0.0, -0.4375, 128.0)]
+# The same with the payments per year after the yield. Where a period's coupon is 100 * (d - 1) the price stays 100.
+BY_PAYMENTS = [(ZERO, 1, 0.0, -0.5, 1, 200.0), (ZERO, 240, 0.0, -0.5, 1, 100.0 * 2.0 ** 240), (FIXED, 2, 50.0, -0.5, 1, 700.0)]
+BY_PAYMENTS += [(FIXED, 1, 5.0, 0.25, 1, 84.0), (FIXED, 240, 25.0, 0.25, 1, 100.0), (ZERO, 1, 0.0, 0.25, 1, 80.0), (ZERO, 2, 0.0, 0.25, 1, 64.0)]
+BY_PAYMENTS += [(ZERO, 2, 0.0, 1.0, 4, 64.0), (FIXED, 1, 20.0, 1.0, 4, 84.0), (FIXED, 240, 100.0, 1.0, 4, 100.0), (FIXED, 1, 20.0, -0.5, 4, 120.0)]
+BY_PAYMENTS += [(FIXED, 2, 12.0, 0.0, 12, 102.0), (FIXED, 240, 12.0, 0.0, 12, 340.0), (FIXED, 240, 75.0, 0.75, 12, 100.0)]
+BY_PAYMENTS += [(FIXED, 1, 9.0, -0.375, 12, 104.0), (ZERO, 240, 0.0, -0.0, 12, 100.0)]
+BY_PAYMENTS += [(*example[:4], 2, example[4]) for example in EXAMPLES + BY_HAND]
 
 
 def above(x):
@@ -57,6 +66,7 @@ HALFWAY_BELOW = [x for k in (1, 3, 5) for x in (above(-k * 2.0 ** -53), -k * 2.0
 YIELDS_BELOW_0 = [*(-x for x in SUBNORMAL), *HALFWAY_BELOW, -2.0 ** -52, -1e-300, -1e-9, -0.0001, -0.0015, -0.0075, -0.02, -0.05, -0.125]
 YIELDS_BELOW_0 += [above(-0.25), -0.25, below(-0.25), -1 / 3, -0.4375, above(above(above(-0.5))), above(above(-0.5)), above(-0.5), -0.5]
 ENDS_BELOW_0 = [-TINY, -0.25, above(-0.5), -0.5]
+ENDS_BY_PAYMENTS = [0.0, -0.0, TINY, -TINY, below(LEAST_NORMAL), -LEAST_NORMAL, 0.05, -0.0015, 1 / 3, -1 / 3, 0.7, below(1.0), 1.0, above(-0.5), -0.5]
 
 
 def bits(x):
@@ -67,13 +77,13 @@ def of_bits(n):
     return struct.unpack("<d", struct.pack("<Q", n))[0]
 
 
-def term(kind, periods, coupon_bits, yield_bits, spare=0):
+def term(kind, periods, coupon_bits, yield_bits, payments=0):
     """The 19 bytes of a term."""
-    return struct.pack("<BBBQQ", kind, periods, spare, coupon_bits, yield_bits)
+    return struct.pack("<BBBQQ", kind, periods, payments, coupon_bits, yield_bits)
 
 
-def bond(kind, periods, coupon, ytm):
-    return term(kind, periods, bits(coupon), bits(ytm))
+def bond(kind, periods, coupon, ytm, payments=0):
+    return term(kind, periods, bits(coupon), bits(ytm), payments)
 
 
 def within_the_rules(text):
@@ -81,8 +91,8 @@ def within_the_rules(text):
 
     "A yield now lies from -0.5 to 1, ends included" (document 02, 2.1).
     """
-    kind, periods, spare, coupon, ytm = struct.unpack("<BBBdd", text)
-    if kind not in (ZERO, FIXED) or not 1 <= periods <= 240 or spare != 0:
+    kind, periods, payments, coupon, ytm = struct.unpack("<BBBdd", text)
+    if kind not in (ZERO, FIXED) or not 1 <= periods <= 240 or payments not in PAYMENTS:
         return False
     if not (0.0 <= coupon <= 100.0 and -0.5 <= ytm <= 1.0):
         return False
@@ -104,18 +114,19 @@ def over(a, b):
 
 def rational_price(text):
     """The price of a term within the rules. A fraction has no negative zero; no price or divisor is a zero, and a zero added to one has no effect."""
-    kind, periods, _, coupon, ytm = struct.unpack("<BBBdd", text)
-    d = plus(1.0, over(ytm, 2.0))
+    kind, periods, payments, coupon, ytm = struct.unpack("<BBBdd", text)
+    a_year = PAYMENTS[payments]
+    d = plus(1.0, over(ytm, a_year))
     p = 100.0
     for _ in range(periods):
-        p = over(plus(p, over(coupon, 2.0)), d) if kind == FIXED else over(p, d)
+        p = over(plus(p, over(coupon, a_year)), d) if kind == FIXED else over(p, d)
     return bits(p)
 
 
 def c_prices(texts):
     """The prices of terms within the rules by price_vectors.c."""
     source = pathlib.Path(__file__).with_name("price_vectors.c")
-    lines = ["%d %d %x %x\n" % (k, n, c, y) for k, n, _, c, y in (struct.unpack("<BBBQQ", text) for text in texts)]
+    lines = ["%d %d %d %x %x\n" % struct.unpack("<BBBQQ", text) for text in texts]
     with tempfile.TemporaryDirectory() as folder:
         program = pathlib.Path(folder) / "prices"
         subprocess.run(["gcc", "-O2", "-ffp-contract=off", "-Wall", "-Werror", "-o", str(program), str(source)], check=True)
@@ -123,16 +134,16 @@ def c_prices(texts):
     return [int(line, 16) for line in out.split()]
 
 
-def by_yield(rng, ytms):
+def by_yield(rng, ytms, payments=0):
     """Each yield, with a zero and with coupons at random."""
     for ytm in ytms:
-        yield from (bond(ZERO, n, 0.0, ytm) for n in PERIODS)
-        yield from (bond(FIXED, n, rng.choice(COUPONS), ytm) for n in PERIODS)
+        yield from (bond(ZERO, n, 0.0, ytm, payments) for n in PERIODS)
+        yield from (bond(FIXED, n, rng.choice(COUPONS), ytm, payments) for n in PERIODS)
 
 
-def at_ends(ytms):
+def at_ends(ytms, payments=0):
     for coupon in ENDS_OF_COUPON:
-        yield from (bond(FIXED, n, coupon, ytm) for ytm in ytms for n in (1, 2, 240))
+        yield from (bond(FIXED, n, coupon, ytm, payments) for ytm in ytms for n in (1, 2, 240))
 
 
 def bonds():
@@ -166,6 +177,67 @@ def bonds_below_0():
         yield bond(ZERO, rng.randint(1, 10), 0.0, -rng.randint(1, 150) / 10000)
 
 
+def around(x):
+    return [below(x), x, above(x)]
+
+
+def halfway_yields(a_year):
+    """Those that put 1 + yield / a_year halfway between two numbers, above 1 and below it, and their neighbours."""
+    return [x for m in (1, 3) for x in around(m * a_year * 2.0 ** -53)] + [x for m in (1, 3, 5) for x in around(-m * a_year * 2.0 ** -54)]
+
+
+def halfway_coupons(a_year):
+    """The same of 100 + coupon / a_year."""
+    return [x for m in (1, 3) for x in around(m * a_year * 2.0 ** -47)]
+
+
+def market(rng, payments, count):
+    """Market rates, up to 30 years of payments as far as there are so many."""
+    most = min(240, 30 * PAYMENTS[payments])
+    for _ in range(count):
+        yield bond(FIXED, rng.randint(1, most), rng.randint(0, 120) / 8, rng.randint(-150, 1500) / 10000, payments)
+    for _ in range(count // 2):
+        yield bond(ZERO, rng.randint(1, most), 0.0, rng.randint(-150, 1500) / 10000, payments)
+
+
+def discounted(periods, payment, d):
+    p = 100.0
+    for _ in range(periods):
+        p = (p + payment) / d
+    return p
+
+
+def where_a_payment_tells(rng):
+    """A bond whose price is another one if its coupon is multiplied by 1 / 12 and not divided by 12."""
+    while True:
+        n, coupon, ytm = rng.randint(1, 240), 100 * rng.random(), rng.uniform(-0.5, 1.0)
+        d = 1 + ytm / 12
+        if discounted(n, coupon / 12, d) != discounted(n, coupon * (1 / 12), d):
+            return bond(FIXED, n, coupon, ytm, 12)
+
+
+def bonds_by_payments():
+    """Terms with the payments per year of document 02, 2.3."""
+    rng = random.Random(23)
+    yield from (bond(*example[:5]) for example in BY_PAYMENTS)
+    for payments in (1, 4, 12):
+        yield from by_yield(rng, halfway_yields(payments) + ENDS_BY_PAYMENTS, payments)
+        for coupon in halfway_coupons(payments):
+            yield from (bond(FIXED, n, coupon, rng.choice([0.0, 0.0425, -0.5]), payments) for n in PERIODS)
+        yield from at_ends([-0.5, above(-0.5), 0.0, 1.0], payments)
+    for payments in PAYMENTS:
+        yield from market(rng, payments, 30)
+    for n in range(1, 241, 3):
+        ytms = [0.0375, 1 / 3, -1 / 3, rng.random(), -rng.random() / 2]
+        yield bond(ZERO, n, 0.0, rng.choice(ytms), rng.choice([1, 4, 12]))
+        yield bond(FIXED, n + 1, rng.choice([5.125, 100 / 7, 100 * rng.random()]), rng.choice(ytms), rng.choice([1, 4, 12]))
+    for n in range(1, 241, 12):  # 0 reads as 2
+        coupon, ytm = 100 * rng.random(), rng.uniform(-0.5, 1.0)
+        yield from (bond(FIXED, n, coupon, ytm, payments) for payments in (0, 2))
+    for _ in range(40):
+        yield where_a_payment_tells(rng)
+
+
 # Bit patterns of rates: inside and one step outside the ends, other signs and sizes, infinities, NaNs quiet and signalling.
 RATES = [bits(x) for end in (0.0, 0.05, 1.0, 100.0) for x in (below(end), end, above(end))]
 RATES += [bits(-x) for x in (0.0, TINY, LEAST_NORMAL, 0.05, 1.0, 100.0, sys.float_info.max, math.inf)]
@@ -185,7 +257,7 @@ def terms():
         yield from (term(kind, 20, coupon, ytm) for _, coupon in plain)
     for kind, coupon in plain:
         yield from (term(kind, n, coupon, ytm) for n in (0, 1, 2, 127, 128, 239, 240, 241, 242, 255))
-        yield from (term(kind, 20, coupon, ytm, spare) for spare in (1, 2, 127, 128, 255))
+        yield from (term(kind, 20, coupon, ytm, payments) for payments in (1, 2, 127, 128, 255))
         yield from (term(kind, 20, coupon, rate) for rate in RATES)
         yield from (term(kind, 20, rate, ytm) for rate in RATES)
         yield from (term(kind, 20, coupon, 2 ** k) for k in range(64))
@@ -194,8 +266,8 @@ def terms():
         backward = int.from_bytes(struct.pack("<d", rng.random()), "big")
         yield term(FIXED, 20, backward, ytm) if rng.random() < 0.5 else term(FIXED, 20, bits(4.25), backward)
     for _ in range(200):  # any parts together, with several faults or none
-        kind, periods, spare = rng.choice([0, 1, 2, 2, 2, 3]), rng.choice([0, 1, 120, 240, 241]), rng.choice([0, 0, 0, 1])
-        yield term(kind, periods, rng.choice([0, *RATES]), rng.choice(RATES), spare)
+        kind, periods, payments = rng.choice([0, 1, 2, 2, 2, 3]), rng.choice([0, 1, 120, 240, 241]), rng.choice([0, 0, 0, 1])
+        yield term(kind, periods, rng.choice([0, *RATES]), rng.choice(RATES), payments)
 
 
 def terms_below_0():
@@ -208,8 +280,27 @@ def terms_below_0():
         for end in (-0.0, -0.5, 1.0):
             yield from (term(kind, 20, coupon, bits(end) ^ 2 ** k) for k in range(64))
     for _ in range(100):  # any parts together, with several faults or none
-        kind, periods, spare = rng.choice([0, 1, 2, 2, 2, 3]), rng.choice([0, 1, 120, 240, 241]), rng.choice([0, 0, 0, 1])
-        yield term(kind, periods, rng.choice([0, 0, bits(4.25), *RATES]), rng.choice(RATES_BELOW_0), spare)
+        kind, periods, payments = rng.choice([0, 1, 2, 2, 2, 3]), rng.choice([0, 1, 120, 240, 241]), rng.choice([0, 0, 0, 1])
+        yield term(kind, periods, rng.choice([0, 0, bits(4.25), *RATES]), rng.choice(RATES_BELOW_0), payments)
+
+
+def terms_by_payments():
+    """Terms with every third byte; each of those allowed beside the ends of the other parts; others with more faults or none."""
+    rng = random.Random(29)
+    ytm, plain = bits(0.05), [(ZERO, bits(0.0)), (FIXED, bits(4.25))]
+    for kind, coupon in plain:
+        yield from (term(kind, 20, coupon, ytm, payments) for payments in range(256))
+    for payments in (1, 2, 4, 12):
+        for kind, coupon in plain:
+            yield from (term(kind, n, coupon, ytm, payments) for n in (0, 1, 240, 241))
+            yield from (term(kind, 20, coupon, bits(x), payments) for x in (below(-0.5), -0.5, 1.0, above(1.0)))
+            yield term(kind + 2, 20, coupon, ytm, payments)
+        yield from (term(FIXED, 20, bits(x), ytm, payments) for x in (-TINY, 100.0, above(100.0)))
+        yield term(ZERO, 20, bits(-0.0), ytm, payments)
+    for _ in range(180):
+        kind, periods = rng.choice([0, 1, 2, 2, 2, 3]), rng.choice([0, 1, 120, 240, 241])
+        payments = rng.choice([0, 1, 2, 4, 12, 3, 5, 6, 11, 13, 24, 52, 255])
+        yield term(kind, periods, rng.choice([0, 0, bits(4.25), *RATES]), rng.choice([ytm, ytm, *RATES, *RATES_BELOW_0]), payments)
 
 
 def priced(texts):
@@ -229,14 +320,19 @@ def record(text, prices):
 
 
 def main():
-    all_bonds, all_terms = (list(dict.fromkeys(texts)) for texts in ([*bonds(), *bonds_below_0()], [*terms(), *terms_below_0()]))
-    prices = priced(all_bonds + all_terms)
-    fail_unless(all(text in prices for text in all_bonds), "a bond is refused")
-    fail_unless(len(all_bonds) >= 500 and len(all_terms) >= 300, "too few")
-    for example in EXAMPLES + BY_HAND:
-        fail_unless(of_bits(prices[bond(*example[:4])]) == example[4], f"{example}: another price")
-    write_file("terms.bin", [record(text, prices) for text in all_terms])
-    write_file("prices.bin", [record(text, prices) for text in all_bonds])
+    files = {
+        "terms.bin": [*terms(), *terms_below_0(), *terms_by_payments()],
+        "prices.bin": [*bonds(), *bonds_below_0()],
+        "prices_by_payments.bin": [*bonds_by_payments()],
+    }
+    prices = priced([text for texts in files.values() for text in texts])
+    fail_unless(all(text in prices for name, texts in files.items() if name != "terms.bin" for text in texts), "a bond is refused")
+    for *example, price in [*EXAMPLES, *BY_HAND, *BY_PAYMENTS]:
+        fail_unless(of_bits(prices[bond(*example)]) == price, f"{example}: another price")
+    for name, texts in files.items():
+        unique = list(dict.fromkeys(texts))
+        fail_unless(len(unique) >= 500, f"too few in {name}")
+        write_file(name, [record(text, prices) for text in unique])
     write_stdout()
 
 

@@ -7,10 +7,10 @@ It needs Python's standard library only (last run with Python 3.11).
 Each is the same program on other data:
 
     rakhvide            the listing of document 01, "Examples", with the output printed there
-    rakhvide_sample     a book of 20 municipal and corporate bonds, a short one at a yield below 0 among them, and a list of events in
-                        which three machines steal from the root and from each other, one of them dies with bonds in hand, its bonds
-                        come back under the next replica number, and every bond is priced in the end; a few events of the list are
-                        refused
+    rakhvide_sample     a book of 20 municipal and corporate bonds, a short one at a yield below 0 among them and some that pay yearly,
+                        quarterly and monthly, and a list of events in which three machines steal from the root and from each other,
+                        one of them dies with bonds in hand, its bonds come back under the next replica number, and every bond is
+                        priced in the end; a few events of the list are refused
     test_no_files       neither book.bin nor events.bin
     test_refused_book   a book whose second entry has a wrong check digit and whose third has another form
     test_long_list      20,000 events, of which the last is refused, and two more that are not read
@@ -34,9 +34,9 @@ from book_bytes import FIXED, ZERO, Entry
 from vector_files import ROOT, fail_unless
 
 
-def entry(base: str, kind: int, periods: int, coupon: float, ytm: float) -> Entry:
-    """The entry of an identifier's first eleven characters, half-years, annual coupon, annual yield."""
-    return Entry(books.with_check_digit(base.encode("ascii")), kind, periods, 0, coupon, ytm)
+def entry(base: str, kind: int, periods: int, coupon: float, ytm: float, payments: int = 0) -> Entry:
+    """The entry of an identifier's first eleven characters, periods, annual coupon, annual yield and the byte of the payments per year."""
+    return Entry(books.with_check_digit(base.encode("ascii")), kind, periods, payments, coupon, ytm)
 
 
 LISTING_BONDS = [entry("ZZ000000001", FIXED, 2, 4.0, 0.0), entry("ZZ000000002", ZERO, 2, 0.0, 0.5)]
@@ -58,15 +58,15 @@ SAMPLE_BONDS = [
     entry("USMUN001437", FIXED, 26, 4.0, 0.0355),
     entry("USMUN001454", FIXED, 48, 5.0, 0.0394),
     entry("USMUN001471", ZERO, 40, 0.0, 0.0418),
-    entry("USCRP002660", FIXED, 120, 6.875, 0.0575),
-    entry("USCRP002683", FIXED, 14, 3.3, 0.0441),
-    entry("USCRP002706", FIXED, 8, 2.375, 0.0427),
-    entry("USCRP002729", FIXED, 58, 4.7, 0.0512),
-    entry("USCRP002752", FIXED, 30, 4.75, 0.0465),
-    entry("USCRP002775", FIXED, 16, 5.717, 0.0533),
-    entry("USCRP002798", FIXED, 22, 2.355, 0.0478),
-    entry("XSCRP005641", FIXED, 12, 1.875, 0.0325),
-    entry("XSCRP005670", ZERO, 18, 0.0, 0.0349),
+    entry("USCRP002660", FIXED, 120, 6.875, 0.0575, 2),
+    entry("USCRP002683", FIXED, 7, 3.3, 0.0441, 1),
+    entry("USCRP002706", FIXED, 16, 2.375, 0.0427, 4),
+    entry("USCRP002729", FIXED, 58, 4.7, 0.0512, 2),
+    entry("USCRP002752", FIXED, 60, 4.75, 0.0465, 4),
+    entry("USCRP002775", FIXED, 96, 5.717, 0.0533, 12),
+    entry("USCRP002798", FIXED, 132, 2.355, 0.0478, 12),
+    entry("XSCRP005641", FIXED, 6, 1.875, 0.0325, 1),
+    entry("XSCRP005670", ZERO, 9, 0.0, 0.0349, 1),
 ]
 SAMPLE_MACHINES = 4
 DYING = 2
@@ -123,12 +123,13 @@ def rounded(x: Fraction) -> float:
 
 
 def exact_price(bond: Entry) -> float:
-    d = rounded(1 + Fraction(rounded(Fraction(bond.ytm) / 2)))
-    half = rounded(Fraction(bond.coupon) / 2)
+    a_year = bond.payments or 2  # "0 reads as 2" (document 02, 2.3)
+    d = rounded(1 + Fraction(rounded(Fraction(bond.ytm) / a_year)))
+    coupon = rounded(Fraction(bond.coupon) / a_year)
     p = 100.0
     for _ in range(bond.periods):
         if bond.kind == FIXED:
-            p = rounded(Fraction(p) + Fraction(half))
+            p = rounded(Fraction(p) + Fraction(coupon))
         p = rounded(Fraction(p) / Fraction(d))
     return p
 

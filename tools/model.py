@@ -74,10 +74,10 @@ class Machine:
 
 def price_of(entry: books.Entry) -> float:
     """Python's float is a binary64, and each operation on it is rounded once."""
-    d = 1 + entry.ytm / 2
+    d = 1 + entry.ytm / entry.a_year
     p = 100.0
     for _ in range(entry.periods):
-        p = (p + entry.coupon / 2) / d if entry.kind == books.FIXED else p / d
+        p = (p + entry.coupon / entry.a_year) / d if entry.kind == books.FIXED else p / d
     return p
 
 

@@ -357,13 +357,13 @@ def legend(width: float, top: float) -> tuple[list[Element], float]:
 
 def bond_line(number: int, entry: books.Entry, job: model.Job) -> tuple[str, str, str, str]:
     """What the book and the page say of a bond."""
-    terms = f"{desk.plural(entry.periods, 'half-year')} at {entry.ytm!r}"
-    kind = f"zero, {terms}" if entry.kind == books.ZERO else f"coupon {entry.coupon!r}, {terms}"
+    kind, periods = ("zero", "period") if entry.kind == books.ZERO else (f"coupon {entry.coupon!r}", "payment")
+    terms = f"{kind}, {desk.plural(entry.periods, periods)}, {entry.a_year} a year, at {entry.ytm!r}"
     if job.state == model.PRICED:
         state = f"priced {job.price:.6f}, replica {job.replica}"
     else:
         state = f"open, replica {job.replica}" if job.state == model.OPEN else model.NOT_ADMITTED
-    return str(number), entry.identifier.decode("ascii"), state, kind
+    return str(number), entry.identifier.decode("ascii"), state, terms
 
 
 def bonds(history: runs.History, width: float, top: float) -> tuple[list[Element], float]:

@@ -47,6 +47,7 @@ ANNOTATED = ["book.py", "book_bytes.py", "desk.py", "events.py", "history.py", "
 SVG_TEXT = "{http://www.w3.org/2000/svg}text"  # by the standard
 
 HEADER = "identifier,kind,periods,coupon,yield\n"
+WITH_PAYMENTS = "identifier,kind,periods,payments,coupon,yield\n"
 GOOD = "ZZ0000000016,fixed,2,4,0\n"
 SECOND = "ZZ0000000024,zero,2,,0.5\n"
 
@@ -119,7 +120,8 @@ def entries_of(terms):
 def random_run(seed, machines, entries, count):
     """A book and events most of which are accepted; deaths and broken events among them."""
     rng = random.Random(seed)
-    bonds = entries_of([(book_bytes.FIXED, rng.randint(1, 240), 0, 100 * rng.random(), rng.uniform(-0.5, 1)) for _ in range(entries)])
+    bonds = entries_of([(book_bytes.FIXED, rng.randint(1, 240), rng.choice([0, 1, 2, 4, 12]), 100 * rng.random(), rng.uniform(-0.5, 1))
+                        for _ in range(entries)])
     table, found = model.Table(machines, bonds), []
     for _ in range(count):
         found.append(random_event(rng, table))
@@ -183,7 +185,7 @@ class Books(Folder):
 
     def test_numbers_are_those_of_book_cases(self):
         cases = list(book_cases())
-        self.assertEqual(len(cases), 727)
+        self.assertEqual(len(cases), 1081)
         for number, data in cases:
             self.assertEqual(book_bytes.number_of(data), number)
 
@@ -251,6 +253,7 @@ class Books(Folder):
         plain = book.make(HEADER + GOOD + SECOND)
         for text in ("\ufeff" + HEADER + GOOD + SECOND, (HEADER + GOOD + SECOND).replace("\n", "\r\n"), HEADER + GOOD + SECOND + ",,,,\n",
                      (HEADER + GOOD + SECOND).replace("\n", ",, ,\n"),
+                     (WITH_PAYMENTS + GOOD.replace(",4,", ",,4,") + SECOND.replace(",,", ",,,")).replace("\n", ",,\n"),
                      HEADER + "\n" + GOOD + SECOND.replace(",,", ",0,"), HEADER + '"ZZ0000000016","fixed","2","4.0","0.0"\n' + SECOND):
             done, written = self.make(text)
             self.assertEqual((done.returncode, written), (0, plain), done.stderr)
@@ -302,6 +305,63 @@ class Books(Folder):
             for ytm in ("-0.5000000000000001", "1.0000000000000002"):
                 self.assert_refused(HEADER + "ZZ0000000016," + terms + ytm + "\n", "row 2, column yield: ", "is outside -0.5 to 1", "refused 7")
 
+    def test_payments(self):
+        """Document 02, 2.3: "1, 2, 4 or 12, and 0 reads as 2 [..] Any other byte is refused 7". An empty cell is the byte 0."""
+        for cell, byte in (("", 0), (" ", 0), ("1", 1), ("2", 2), ("4", 4), ("12", 12), (" +4 ", 4), ("012", 12)):
+            for terms in ("fixed,20,{},4,0.05", "zero,20,{},,0.05"):
+                done, written = self.make("# machines 2\n" + WITH_PAYMENTS + "ZZ0000000016," + terms.format(cell) + "\n")
+                self.assertEqual((done.returncode, done.stderr, written[18], book_bytes.number_of(written)), (0, b"", byte, 0), cell)
+                (self.folder / "book.bin").unlink()
+        allowed = " is none of 1, 2, 4 and 12 payments a year; an empty cell is 2"
+        for cell in ("3", "5", "6", "11", "13", "24", "52", "-1", "256", "365", "9" * 5000):
+            shown = cell if len(cell) < 60 else "9" * 60 + "..."
+            for terms in ("fixed,20,{},4,0.05", "zero,20,{},,0.05"):
+                self.assert_refused(WITH_PAYMENTS + "ZZ0000000016," + terms.format(cell) + "\n", "row 2, column payments: " + shown + allowed + " (refused 7)")
+        for cell in ("0", "00", "+0"):
+            done, written = self.make(WITH_PAYMENTS + f"ZZ0000000016,fixed,20,{cell},4,0.05\n")
+            self.assert_message(done, "row 2, column payments: 0" + allowed)
+            self.assertEqual((done.returncode, written), (1, None), cell)
+        for cell in ("monthly", "2.0", "1_2", "\u0662", "-", "12x"):
+            self.assert_refused(WITH_PAYMENTS + f"ZZ0000000016,fixed,20,{cell},4,0.05\n", f"row 2, column payments: '{cell}' is not a whole number")
+        for byte in range(256):
+            data = book_bytes.book_of(2, entries_of([(book_bytes.FIXED, 20, byte, 4.0, 0.05)]))
+            self.assertEqual(book_bytes.number_of(data), 0 if byte in (0, 1, 2, 4, 12) else 7)
+
+    def test_payments_and_other_faults(self):
+        """In the order of the columns, and of the rows."""
+        text = WITH_PAYMENTS + "ZZ0000000017,fixed,0,3,101,2\nZZ0000000016,bill,241,no,4,0\nZZ0000000024,zero,20,12,,0.05\n"
+        self.assert_lines(self.make(text)[0], "row 2, column identifier", "row 2, column periods", "row 2, column payments: 3 is none",
+                          "row 2, column coupon", "row 2, column yield", "row 3, column kind", "row 3, column periods",
+                          "row 3, column payments: 'no' is not a whole number", str(self.folder))
+        faulty = book_bytes.book_of(2, entries_of([(book_bytes.FIXED, 20, 3, 4.0, 0.05)]))
+        done = tool("book.py", "show", self.file("f.bin", faulty))
+        self.assert_lines(done, "row 3, column payments: 3 is none of 1, 2, 4 and 12 payments a year")
+        self.assertEqual(done.stdout.decode(), "# machines 2\n" + WITH_PAYMENTS + "ZZ0000000008,fixed,20,3,4.0,0.05\n")
+
+    def test_payments_anyway(self):
+        for cell, byte, number in (("3", 3, 7), ("255", 255, 7), ("0", 0, 0), ("", 0, 0)):
+            done, written = self.make(WITH_PAYMENTS + f"ZZ0000000016,fixed,20,{cell},4,0.05\n", "--anyway")
+            self.assertEqual((done.returncode, written[18], book_bytes.number_of(written)), (0, byte, number))
+        text = WITH_PAYMENTS + "ZZ0000000016,fixed,20,256,4,0.05\n"
+        self.assert_lines(self.make(text, "--anyway")[0], "row 2, column payments: 256 does not fit into its place", str(self.folder))
+
+    def test_books_without_payments(self):
+        """A file without the column is read as before it was there, and a book without payments is shown so."""
+        plain = b"\2\0\1\0ZZ0000000016\2\2\0" + struct.pack("<dd", 4.0, 0.05)
+        old, new = "# machines 2\n" + HEADER + "ZZ0000000016,fixed,2,4.0,0.05\n", "# machines 2\n" + WITH_PAYMENTS + "ZZ0000000016,fixed,2,,4.0,0.05\n"
+        self.assertEqual((book.make(old), book.make(new), book.show(plain)), (plain, plain, old))
+        stated = plain[:18] + b"\2" + plain[19:]
+        self.assertEqual((book.make(new.replace(",,", ",2,")), book.show(stated)), (stated, new.replace(",,", ",2,")))
+        self.assertEqual(model.page(plain, events.make("admit 0\nstart 0 job 0\ndone 0\ndeliver 0 to 0\n")),
+                         model.page(stated, events.make("admit 0\nstart 0 job 0\ndone 0\ndeliver 0 to 0\n")))
+
+    def test_some_payments_come_back(self):
+        """In a book where some bonds state them the cells of the others are empty."""
+        data = book_bytes.book_of(2, entries_of([(1 + i % 2, i + 1, byte, i % 2 * 4.0, 0.05) for i, byte in enumerate([0, 1, 2, 4, 12, 0])]))
+        rows = [line.split(",") for line in book.show(data).splitlines()[1:]]
+        self.assertEqual([row[3] for row in rows], ["payments", "", "1", "2", "4", "12", ""])
+        self.assertEqual(book.make(book.show(data)), data)
+
     def test_long_numbers(self):
         """They are told by what the cell says, shortened."""
         nines = "9" * 60 + "... is outside"
@@ -337,19 +397,25 @@ class Books(Folder):
 
     def test_headers(self):
         """What is found, where, and what is expected."""
-        expected = "is not the header identifier,kind,periods,coupon,yield: "
+        expected = "is not the header identifier,kind,periods,payments,coupon,yield, of which payments may be left out: "
         for row, words in (
                 ("identifier;kind;periods;coupon;yield", "its cells are parted by semicolons, not by commas"),
                 ("identifier\tkind\tperiods\tcoupon\tyield", "its cells are parted by tabs, not by commas"),
-                ("identifier,kind,periods,yield,coupon", "column 4 is 'yield', and coupon is expected there"),
+                ("identifier,kind,periods,yield,coupon", "column 4 is 'yield', and payments or coupon is expected there"),
+                ("identifier,kind,periods,payment,coupon,yield", "column 4 is 'payment', and payments or coupon is expected there"),
                 ("identifier,kind,coupon", "it has no periods and no yield"), ("ISIN,kind,periods,coupon,yield", "it has no identifier"),
                 ("identifier,kind,periods,coupon,yield,price", "column 6 is 'price', and there are 5 columns"),
+                ("identifier,kind,periods,coupon,yield,payments", "column 4 is 'coupon', and payments is expected there"),
+                ("identifier,kind,payments,coupon,yield", "it has no periods"),
+                ("identifier,kind,periods,payments,coupon,yield,price", "column 7 is 'price', and there are 6 columns"),
                 (GOOD.strip(), "it has none of the columns")):
             done, written = self.make("# a comment\n\n" + row + "\n" + GOOD)
             self.assert_lines(done, "row 3: '" + row.replace("\t", "<a tab>") + "' " + expected + words, str(self.folder))
             self.assertIsNone(written)
-        self.assert_refused("# machines 3\n", "the header identifier,kind,periods,coupon,yield is missing")
+        self.assert_refused("# machines 3\n", "the header identifier,kind,periods,payments,coupon,yield is missing")
         self.assert_refused(HEADER + GOOD.replace(",", ";"), "row 2: its cells are parted by semicolons, not by commas")
+        self.assert_refused(WITH_PAYMENTS + GOOD, "row 2: 5 cells, and the header has 6")
+        self.assert_refused(HEADER + "ZZ0000000016,fixed,2,2,4,0\n", "row 2: 6 cells, and the header has 5")
 
     def test_rates_in_the_other_unit(self):
         """A warning stops nothing. Document 01's examples, with a yield of 0.5, have none."""
@@ -472,7 +538,7 @@ class Books(Folder):
         for number, data in (
                 (1, b""), (1, good[:3]), (2, b"\x01" + good[1:]), (2, good[:2] + b"\xff\xff"), (3, good[:-1]), (3, good + b"\0"),
                 (4, good[:14] + b"\xff" + good[15:]), (5, good[:15] + b"7" + good[16:]), (6, good[:16] + good[4:16] + good[28:]),
-                (7, good[:28] + b"\x09" + good[29:]), (7, good[:30] + b"\x01" + good[31:])):
+                (7, good[:28] + b"\x09" + good[29:]), (7, good[:30] + b"\x03" + good[31:])):
             self.assertEqual(book_bytes.number_of(data), number)
             self.assert_message(tool("book.py", "show", self.file("f.bin", data)), f"refused {number}")
         long = tool("book.py", "show", self.file("f.bin", good + bytes(100000)))
@@ -604,6 +670,10 @@ class Model(Folder):
         self.assertEqual([model.price_of(entry) for entry in entries_of(terms)], [104, 64, 84])
         terms = [(book_bytes.FIXED, 1, 0, 10.0, -0.25), (book_bytes.FIXED, 1, 0, 100.0, -0.5), (book_bytes.ZERO, 1, 0, 0.0, -0.4375)]
         self.assertEqual([model.price_of(entry) for entry in entries_of(terms)], [120, 200, 128])  # by hand: no step is rounded
+        terms = [(book_bytes.ZERO, 1, 1, 0.0, -0.5), (book_bytes.FIXED, 2, 1, 50.0, -0.5), (book_bytes.ZERO, 2, 4, 0.0, 1.0),
+                 (book_bytes.FIXED, 1, 4, 20.0, 1.0), (book_bytes.FIXED, 2, 12, 12.0, 0.0), (book_bytes.FIXED, 1, 12, 9.0, -0.375),
+                 (book_bytes.FIXED, 2, 2, 4.0, 0.0), (book_bytes.ZERO, 2, 2, 0.0, 0.5)]
+        self.assertEqual([model.price_of(entry) for entry in entries_of(terms)], [200, 700, 64, 84, 102, 104, 104, 64])  # by hand too
 
     def table(self, text, machines=3):
         """The table after a list of events, all of which are accepted."""
@@ -803,22 +873,25 @@ class Picture(Folder):
 
     def test_long_rates(self):
         """Terms and states are whole, and none covers another or leaves the picture."""
-        terms = [(book_bytes.FIXED, 240, 0, 100 / 3, 1 / 3), (book_bytes.FIXED, 240, 0, 2.2250738585072014e-308, 1.2345678901234568e-300),
-                 (book_bytes.FIXED, 240, 0, 100.0, 0.0), (book_bytes.ZERO, 1, 0, 0.0, 0.5), (book_bytes.FIXED, 240, 0, 100.0, -0.5)]
+        terms = [(book_bytes.FIXED, 240, 12, 100 / 3, 1 / 3), (book_bytes.FIXED, 240, 12, 2.2250738585072014e-308, 1.2345678901234568e-300),
+                 (book_bytes.FIXED, 240, 0, 100.0, 0.0), (book_bytes.ZERO, 1, 4, 0.0, 0.5), (book_bytes.FIXED, 1, 1, 4.0, -0.5),
+                 (book_bytes.FIXED, 240, 2, 100.0, -0.5)]
         bonds = entries_of(terms)
         found = "".join(f"admit {i}\nstart 0 job {i}\ndone 0\ndeliver 0 to 0\n" for i in range(len(terms)))
         tree = xml.etree.ElementTree.fromstring(svg.document(picture.picture(book_bytes.book_of(2, bonds), events.make(found))))
         texts = {node.text: node for node in tree.iter(SVG_TEXT)}
-        self.assertIn(f"coupon {100 / 3!r}, 240 half-years at {1 / 3!r}", texts)
-        self.assertIn("coupon 2.2250738585072014e-308, 240 half-years at 1.2345678901234568e-300", texts)
-        self.assertIn("zero, 1 half-year at 0.5", texts)
+        self.assertIn(f"coupon {100 / 3!r}, 240 payments, 12 a year, at {1 / 3!r}", texts)
+        self.assertIn("coupon 2.2250738585072014e-308, 240 payments, 12 a year, at 1.2345678901234568e-300", texts)
+        self.assertIn("coupon 100.0, 240 payments, 2 a year, at 0.0", texts)
+        self.assertIn("zero, 1 period, 4 a year, at 0.5", texts)
+        self.assertIn("coupon 4.0, 1 payment, 1 a year, at -0.5", texts)
         end = {words: float(node.get("x")) + svg.width_of(words, float(node.get("font-size"))) for words, node in texts.items() if words}
-        terms_at = {float(node.get("x")) for words, node in texts.items() if words and " half-year" in words}
+        terms_at = {float(node.get("x")) for words, node in texts.items() if words and " a year, at " in words}
         states = [words for words in texts if words and words.startswith("priced ")]
         self.assertIn("priced 12100.000000, replica 1", states)
         self.assertEqual(max(map(len, states)), len("priced .000000, replica 1") + 33)  # at a yield of -0.5 the price has 33 digits
         self.assertLess(max(end[words] for words in states), min(terms_at))
-        self.assertLess(max(place for words, place in end.items() if " half-year" in words), float(tree.get("width")) - picture.MARGIN)
+        self.assertLess(max(place for words, place in end.items() if " a year, at " in words), float(tree.get("width")) - picture.MARGIN)
 
     def test_a_picture_too_high_is_told(self):
         self.file("book.bin", book.make(LISTING_BOOK))

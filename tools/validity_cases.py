@@ -4,15 +4,16 @@
 To run, at the root of the repository: /usr/bin/python3 tools/validity_cases.py
 
 A case is a label, the changes made to one table that passes check 9, and the answer expected: 0 or 9. Each expectation is
-read off document 01, "The table" and row 9 of "Where each refusal is checked", and for yields off document 02, 2.1; their
-words stand above the cases, and no program of this repository decides one. A case that passes stands beside those refused
-where the two differ little.
+read off document 01, "The table" and row 9 of "Where each refusal is checked", and off document 02, 2.1 for yields and 2.3
+for payments; their words stand above the cases, and no program of this repository decides one. A case that passes stands
+beside those refused where the two differ little.
 
-The table that every case starts from (crates/test_validity/src/tables.rt builds it): 4 machines, of which 3 is dead and
-the root was told of it, so that no replica number is above 2; 3 entries. Job 0 is open with replica 1, moving from 1 to 2;
-job 1 is priced with replica 2, on 3; job 2 is not admitted. Machine 1 has the copy (job 0, replica 1, thief 2) reserved and
-waits on 0; machine 2 runs (job 1, replica 2). The pool of 0 has job 1 with replica 2, that of 2 has job 0 with replica 1.
-In flight are FISH from 2 to 1, AUTH (job 0, replica 1, thief 2) from 0 to 1, RESULT (job 1, replica 2, a price) from 2 to 0.
+The table that every case starts from (crates/test_validity/src/tables.rt builds it): 4 machines, of which 3 is dead and the
+root was told of it, so that no replica number is above 2; 3 entries with two payments a year. Job 0 is open with replica 1,
+moving from 1 to 2; job 1 is priced with replica 2, on 3; job 2 is not admitted. Machine 1 has the copy (job 0, replica 1,
+thief 2) reserved and waits on 0; machine 2 runs (job 1, replica 2). The pool of 0 has job 1 with replica 2, that of 2 has
+job 0 with replica 1. In flight are FISH from 2 to 1, AUTH (job 0, replica 1, thief 2) from 0 to 1, RESULT (job 1, replica
+2, a price) from 2 to 0.
 """
 from vector_files import ROOT, fail_unless
 
@@ -23,7 +24,7 @@ CHANGES = 8  # changes of a case at most
 # The fields, numbered from 1.
 FIELDS = """machines entries in_flight periods zero_yield coupon yield state replica moving holder thief price alive
 reserved_job reserved_replica reserved_thief running_job running_replica waits told pool
-kind from to job copy for bits""".split()
+kind from to job copy for bits payments""".split()
 
 # The rates of a bond's terms; the last three are the number next below -0.5, -0.5, the number next above it.
 PLUS_0, MINUS_0, BELOW_0, ONE, ABOVE_ONE, HUNDRED, ABOVE_HUNDRED, NAN, BELOW_LEAST, LEAST, ABOVE_LEAST = range(11)
@@ -58,7 +59,7 @@ CASES += [("sound", [], 0)]
 CASES += one("machines", 0, (0, 9), (1, 9), (16, 0), (17, 9), (255, 9))
 CASES += one("entries", 0, (65, 9), (255, 9))
 CASES += one("in_flight", 0, (129, 9), (255, 9))
-CASES += [("a fourth entry", [("entries", 0, 4), ("periods", 3, 1)], 0)]
+CASES += [("a fourth entry", [("entries", 0, 4), ("periods", 3, 1), ("payments", 3, 2)], 0)]
 CASES += [("a fifth machine, dead", [("machines", 0, 5)], 0)]
 CASES += [("a fifth machine, alive", [("machines", 0, 5), ("alive", 4, 1)], 0)]
 
@@ -70,7 +71,15 @@ CASES += one("yield", 0, (BELOW_LEAST, 9), (LEAST, 0), (ABOVE_LEAST, 0))
 CASES += one("zero_yield", 1, (PLUS_0, 0), (MINUS_0, 0), (BELOW_0, 0), (ONE, 0), (ABOVE_ONE, 9), (NAN, 9))
 CASES += one("zero_yield", 1, (BELOW_LEAST, 9), (LEAST, 0), (ABOVE_LEAST, 0))
 CASES += one("coupon", 2, (PLUS_0, 0), (MINUS_0, 0), (BELOW_0, 9), (HUNDRED, 0), (ABOVE_HUNDRED, 9), (NAN, 9), (LEAST, 9))
+# "1, 2, 4 or 12 [..]; an entry's terms in a table hold one of these four" (document 02, 2.3): 0, which a book may have, is none of them
+CASES += one("payments", 0, (0, 9), (1, 0), (2, 0), (3, 9), (4, 0), (5, 9), (11, 9), (12, 0), (13, 9), (24, 9), (255, 9))
+CASES += one("payments", 1, (0, 9), (1, 0), (2, 0), (3, 9), (4, 0), (6, 9), (12, 0), (16, 9), (128, 9))
+CASES += one("payments", 2, (0, 9), (12, 0))
+CASES += [("a fourth entry without payments", [("entries", 0, 4), ("periods", 3, 1)], 9)]
+CASES += [("the lowest yield, paid yearly", [("yield", 0, LEAST), ("payments", 0, 1)], 0)]
+CASES += [("below the lowest yield, paid yearly", [("yield", 0, BELOW_LEAST), ("payments", 0, 1)], 9)]
 # "an unused part not 0": entry numbers from n on have no terms
+CASES += one("payments", 3, (0, 0), (1, 9), (2, 9), (12, 9)) + one("payments", 63, (0, 0), (2, 9), (4, 9))
 CASES += one("periods", 3, (1, 9)) + one("periods", 63, (240, 9))
 CASES += one("zero_yield", 3, (PLUS_0, 0), (MINUS_0, 9), (BELOW_0, 9), (ONE, 9), (NAN, 9), (LEAST, 9)) + one("coupon", 63, (PLUS_0, 9))
 CASES += [("an entry less", [("entries", 0, 2)], 9)]

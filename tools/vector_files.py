@@ -17,7 +17,7 @@ CRATE = ROOT / "crates" / "test_vectors"
 VERDICTS = [("verdict 0", 0), ("verdict 4", 4), ("verdict 5", 5)]
 BONDS = [("zero-coupon", 1), ("fixed coupon", 2), ("refused", 7)]
 # The files, in the order in which the program reads them, with the classes of their records.
-FILES = {"identifiers_1.bin": VERDICTS, "identifiers_2.bin": VERDICTS, "terms.bin": BONDS, "prices.bin": BONDS}
+FILES = {"identifiers_1.bin": VERDICTS, "identifiers_2.bin": VERDICTS, "terms.bin": BONDS, "prices.bin": BONDS, "prices_by_payments.bin": BONDS}
 
 
 def fail_unless(condition: bool, message: str) -> None:

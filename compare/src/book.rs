@@ -55,7 +55,7 @@ impl<'a> Book<'a> {
         &self.bytes[4 + IDENTIFIER * entry..][..IDENTIFIER]
     }
 
-    fn term(&self, entry: usize) -> &'a [u8] {
+    pub fn term(&self, entry: usize) -> &'a [u8] {
         &self.bytes[4 + IDENTIFIER * self.entries + TERM * entry..][..TERM]
     }
 
@@ -69,12 +69,14 @@ impl<'a> Book<'a> {
     }
 }
 
-/// "A term is: kind (1 zero-coupon, 2 fixed coupon), periods, a spare byte 0, annual coupon per 100 of
-/// face, annual yield as a fraction." None where it is outside the rules.
+/// "A term is: kind (1 zero-coupon, 2 fixed coupon), periods [..], a spare byte [..], annual coupon per 100 of
+/// face, annual yield as a fraction." "The spare byte of a term becomes the payments per year: 1, 2, 4 or 12,
+/// and 0 reads as 2" (document 02, 2.3). None where it is outside the rules.
 pub fn term(bytes: &[u8]) -> Option<Bond> {
-    if bytes.len() != TERM || bytes[2] != 0 {
+    if bytes.len() != TERM {
         return None;
     }
+    let payments = if bytes[2] == 0 { 2 } else { bytes[2] };
     let coupon = f64_at(bytes, 3);
     let ytm = f64_at(bytes, 11);
     let terms = match bytes[0] {
@@ -83,7 +85,7 @@ pub fn term(bytes: &[u8]) -> Option<Bond> {
         2 => Terms::Fixed { coupon, ytm },
         _ => return None,
     };
-    Some(Bond { periods: bytes[1], terms }).filter(Bond::in_range)
+    Some(Bond { periods: bytes[1], payments, terms }).filter(Bond::in_range)
 }
 
 fn f64_at(bytes: &[u8], at: usize) -> f64 {
@@ -105,6 +107,21 @@ mod tests {
         assert!(term(&term_bytes(2, 240, 4.0, 0.0)).is_some());
         assert!(term(&term_bytes(2, 241, 4.0, 0.0)).is_none());
         assert!(term(&term_bytes(2, 0, 4.0, 0.0)).is_none());
+    }
+
+    #[test]
+    fn payments() {
+        for byte in 0..=u8::MAX {
+            let mut bytes = term_bytes(2, 20, 4.0, 0.05);
+            bytes[2] = byte;
+            let read = term(&bytes).map(|bond| bond.payments);
+            let expected = match byte {
+                0 => Some(2),
+                1 | 2 | 4 | 12 => Some(byte),
+                _ => None,
+            };
+            assert_eq!(read, expected);
+        }
     }
 
     #[test]

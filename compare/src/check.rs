@@ -262,6 +262,24 @@ mod tests {
         assert_eq!(check(&fresh()), Ok(()));
     }
 
+    /// Document 02, 2.3: 0 of a book is 2 in its table; an entry in use has one of the four, another none.
+    #[test]
+    fn payments() {
+        let term = [&[1, 20, 0][..], &[0; 16]].concat();
+        let book = [&[3, 0, 1, 0][..], b"ZZ0000000016", &term].concat();
+        let opened = Table::open(&Book::read(&book).unwrap());
+        assert_eq!((opened.bonds[0].payments, opened.bonds[1].payments), (2, 0));
+        let passing = |entry: usize| {
+            let passes = |payments: &u8| {
+                let mut table = opened.clone();
+                table.bonds[entry].payments = *payments;
+                check(&table).is_ok()
+            };
+            (0..=u8::MAX).filter(passes).collect::<Vec<u8>>()
+        };
+        assert_eq!((passing(0), passing(1), passing(63)), (vec![1, 2, 4, 12], vec![0], vec![0]));
+    }
+
     #[test]
     fn a_few_faults() {
         let faulty = |damage: fn(&mut Table)| {

@@ -10,7 +10,7 @@ pub const ENTRIES: usize = 64;
 pub const MESSAGES: usize = 128;
 
 /// The bytes of one element of a snapshot.
-pub const TERM_BYTES: usize = 18;
+pub const TERM_BYTES: usize = 19;
 pub const JOB_BYTES: usize = 13;
 pub const MACHINE_BYTES: usize = 7;
 pub const MESSAGE_BYTES: usize = 14;
@@ -230,17 +230,17 @@ impl Reader<'_> {
         u64::from_le_bytes(self.bytes())
     }
 
-    /// Case (0 zero-coupon, 1 fixed), periods, coupon, yield. None for another case, and for a zero-coupon
-    /// entry with a coupon.
+    /// Case (0 zero-coupon, 1 fixed), periods, payments per year, coupon, yield. None for another case, and
+    /// for a zero-coupon entry with a coupon.
     fn bond(&mut self) -> Option<Bond> {
-        let [case, periods] = self.bytes();
+        let [case, periods, payments] = self.bytes();
         let (coupon, ytm) = (f64::from_bits(self.word()), f64::from_bits(self.word()));
         let terms = match case {
             0 if coupon.to_bits() == 0 => Terms::Zero { ytm },
             1 => Terms::Fixed { coupon, ytm },
             _ => return None,
         };
-        Some(Bond { periods, terms })
+        Some(Bond { periods, payments, terms })
     }
 
     fn job(&mut self) -> Job {
@@ -277,7 +277,7 @@ impl Writer<'_> {
             Terms::Zero { ytm } => (0, 0.0, ytm),
             Terms::Fixed { coupon, ytm } => (1, coupon, ytm),
         };
-        self.bytes(&[case, bond.periods]);
+        self.bytes(&[case, bond.periods, bond.payments]);
         self.bytes(&coupon.to_le_bytes());
         self.bytes(&ytm.to_le_bytes());
     }
@@ -351,18 +351,27 @@ mod tests {
             let at = TERMS_AT + entry * TERM_BYTES;
             bytes[at] = (entry % 2) as u8;
             if entry % 2 == 0 {
-                bytes[at + 2..at + 10].fill(0);
+                bytes[at + 3..at + 11].fill(0);
             }
         }
         assert_eq!(Table::from_bytes(&bytes).unwrap().to_bytes(), bytes);
         assert!(Table::from_bytes(&bytes[1..]).is_none());
-        bytes[TERMS_AT + 2] = 1;
+        assert!(Table::from_bytes(&bytes[..BYTES - ENTRIES]).is_none());
+        bytes[TERMS_AT + 3] = 1;
         assert!(Table::from_bytes(&bytes).is_none());
+    }
+
+    /// The numbers of docs/LAYOUT.md.
+    #[test]
+    fn places() {
+        assert_eq!([JOBS_AT, MACHINES_AT, TOLD_AT, POOLS_AT], [1218, 2050, 2162, 2418]);
+        assert_eq!([IN_FLIGHT_AT, MESSAGES_AT, BYTES], [3442, 3443, 5235]);
     }
 
     #[test]
     fn offsets() {
         let mut table = Table::open(&Book::read(&[16, 0, 0, 0]).unwrap());
+        table.bonds[0] = Bond { periods: 98, payments: 99, ..Bond::NONE };
         table.jobs[0].state = 101;
         table.machine[0].alive = 102;
         table.told[0][0] = 103;
@@ -370,6 +379,7 @@ mod tests {
         table.in_flight = 105;
         table.messages[0].kind = 106;
         let bytes = table.to_bytes();
+        assert_eq!(bytes[TERMS_AT..TERMS_AT + 4], [0, 98, 99, 0]);
         assert_eq!([bytes[JOBS_AT], bytes[MACHINES_AT], bytes[TOLD_AT]], [101, 102, 103]);
         assert_eq!([bytes[POOLS_AT], bytes[IN_FLIGHT_AT], bytes[MESSAGES_AT]], [104, 105, 106]);
     }

@@ -5,7 +5,7 @@
 //!
 //! 0. an identifier;
 //! 1. a term;
-//! 2. periods, coupon and yield;
+//! 2. periods, payments, coupon and yield;
 //! 3. the length of a book (2 bytes), the book, and events for its page;
 //! 4. the length of a book (2 bytes), the book, and what is done to the table opened from it: events of 3
 //!    bytes, and changes of one byte (240, offset in 2 bytes, value);
@@ -70,14 +70,15 @@ fn one_term(library: &mut Library, input: &[u8]) {
 }
 
 fn one_price(library: &mut Library, input: &[u8]) {
-    let mut bytes = [0; 17];
+    let mut bytes = [0; 18];
     bytes.iter_mut().zip(input).for_each(|(to, from)| *to = *from);
     let float =
         |at: usize| f64::from_bits((0..8).fold(0, |word, i| word | u64::from(bytes[at + i]) << (8 * i)));
-    let (periods, coupon, ytm) = (bytes[0], float(1), float(9));
-    same("price of a zero", library.price_zero(periods, ytm), price::price_zero(periods, ytm));
-    let second = price::price_fixed(periods, coupon, ytm);
-    same("price of a fixed", library.price_fixed(periods, coupon, ytm), second);
+    let (periods, payments, coupon, ytm) = (bytes[0], bytes[1], float(2), float(10));
+    let second = price::price_zero(periods, payments, ytm);
+    same("price of a zero", library.price_zero(periods, payments, ytm), second);
+    let second = price::price_fixed(periods, payments, coupon, ytm);
+    same("price of a fixed", library.price_fixed(periods, payments, coupon, ytm), second);
 }
 
 /// A length of 2 bytes, so many bytes (or all there are), and the rest.

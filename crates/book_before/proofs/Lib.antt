@@ -1,3 +1,5 @@
 pub mod Terms
+pub mod Formula
 pub mod Faults
 pub mod Kept
+pub mod Spare

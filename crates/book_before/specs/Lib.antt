@@ -1,2 +1,4 @@
+pub mod Formula
 pub mod Before
 pub mod Kept
+pub mod Spare

@@ -6,7 +6,7 @@ use lib.Dec.{T, eqb}
 use lib.Ieee.{Float, nan, inf, fin, binary64, le, isNan, nanBits}
 use lib.Ieee.Bits.{nanBits-is}
 use Rattle.lists.proofs.Cases.{and-false, cond-same}
-use Rattle.pricer.specs.Range.{couponInRange, yieldInRange, periodsInRange, termsInRange, inRange}
+use Rattle.pricer.specs.Range.{couponInRange, yieldInRange, periodsInRange, paymentsInRange, termsInRange, inRange}
 use Rattle.pricer.specs.Bonds.{withTerms}
 use Rattle.pricer.specs.declared.Bond.{Bond}
 use Rattle.pricer.specs.declared.Terms.the-variants.{Zero, Fixed}
@@ -34,7 +34,7 @@ yield-nan = refl
 
 outside : (b : Bond) → termsInRange (b .terms) ≡ false → checked b ≡ Faulty
 unfolding checked inRange
-outside b e = simp (e, and-false (periodsInRange (b .periods)))
+outside b e = simp (e, and-false (periodsInRange (b .periods) && paymentsInRange (b .payments)))
 
 module _ (b : Bond) (c y : ℕ) (h : nanBits binary64 y ≡ true) where
   zero-yield : checked (withTerms b (Zero (floatOf y))) ≡ Faulty

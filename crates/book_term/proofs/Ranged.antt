@@ -29,9 +29,7 @@ from-fine k b c y =
 
 term-fine : (s : List ℕ) → Fine (termOf s)
 unfolding termOf
-term-fine s =
-    cond-elim Fine (eqb (length s) 19) _ Faulty
-    (cond-elim Fine (eqb (getD s 2 0) 0) _ Faulty (from-fine (getD s 0 0) (bareBond s) (le64 s 3) (le64 s 11)) tt) tt
+term-fine s = cond-elim Fine (eqb (length s) 19) _ Faulty (from-fine (getD s 0 0) (bareBond s) (le64 s 3) (le64 s 11)) tt
 
 pub read-in-range : (s : List ℕ) (b : Bond) → termOf s ≡ Valid b → inRange b ≡ true
 read-in-range s b e = subst Fine e (term-fine s)

@@ -3,7 +3,7 @@ use pricer::Bond;
 use pricer::Terms;
 ghost use mathlib.Core.Path.{_≡_};
 ghost use lib.Ieee.{binary64, nanBits};
-ghost use Rattle.book_term.specs.Term.{checked, termFrom, termOf};
+ghost use Rattle.book_term.specs.Term.{checked, paymentsOf, termFrom, termOf};
 
 // What reading a term finds: its bond, or a term outside the rules.
 pub enum Reading {
@@ -52,6 +52,13 @@ fn from_fields(kind: u8, b: Bond, coupon: u64, ytm: u64) -> Reading
     in_rules(pricer::with_terms(b, Terms::Fixed(c, y)))
 }
 
+// The payments of a year that the third byte of a term states.
+fn payments(byte: u8) -> u8
+    ensures { λ r. ⌜ r ≡ paymentsOf byte ⌝ }
+{
+    if byte == 0 { 2 } else { byte }
+}
+
 // Reads the 19 bytes of a term. Any other number of bytes is no term.
 pub fn read(s: &[u8]) -> Reading
     ensures { λ r. ⌜ r ≡ termOf (now (s .entry)) ⌝ }
@@ -59,10 +66,8 @@ pub fn read(s: &[u8]) -> Reading
     if s.len() != 19 {
         return Reading::Faulty;
     }
-    if s[2] != 0 {
-        return Reading::Faulty;
-    }
     let mut bare = pricer::NO_BOND;
     bare.periods = s[1];
+    bare.payments = payments(s[2]);
     from_fields(s[0], bare, endian::u64_at(s, 3), endian::u64_at(s, 11))
 }

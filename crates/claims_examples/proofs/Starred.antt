@@ -5,7 +5,7 @@ use Prim.Native.Nat.{ℕ}
 use mathlib.Core.Path.{_≡_, refl}
 use mathlib.Core.Bool.{true}
 use mathlib.Core.List.{List, [], _∷_}
-use lib.Ieee.{ofBits, toBits, add, div, le}
+use lib.Ieee.{ofBits, toBits, ofInt, add, div, le}
 use Rattle.lists.specs.Scan.{all, least, filter, padTo, without, upTo, tabulate, countTo}
 use Rattle.isin.specs.Isin.{allIn, hasForm, expanded, twice, digitSum, total, verdictOf}
 use Rattle.pricer.specs.Price.{zeroAfter, fixedAfter, priceOf, priceBits}
@@ -38,7 +38,7 @@ use Rattle.claims_examples.specs.Rows.{bookWith, book, fresh, allAccepte
 -- ---- what is computed, each group opened by one name
 
 unfoldable leafParts : ℕ
-unfolding all least allIn hasForm expanded twice digitSum total verdictOf ofBits toBits add div le zeroAfter fixedAfter priceOf priceBits
+unfolding all least allIn hasForm expanded twice digitSum total verdictOf ofBits toBits ofInt add div le zeroAfter fixedAfter priceOf priceBits
 leafParts = 0
 
 unfoldable bookParts : ℕ

@@ -58,9 +58,9 @@ us = 85 ∷ 83 ∷ 48 ∷ 51 ∷ 55 ∷ 56 ∷ 51 ∷ 51 ∷ 49 ∷ 48 ∷ 48 �
 
 -- ---- prices
 
--- a bond of n periods with these terms
+-- a bond of n periods with these terms, paid twice a year
 abbrev pub bond : ℕ → Terms → Bond
-bond n t = record { periods = n; terms = t }
+bond n t = record { periods = n; payments = 2; terms = t }
 
 -- "Coupon 4, yield 0, 2 periods": 4 has the bits 4010 0000 0000 0000
 abbrev pub four : Bond

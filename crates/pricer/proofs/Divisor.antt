@@ -1,25 +1,28 @@
--- d = 1 + y / 2 lies from 3/4 to 3/2 for a yield y in range, from -1/2 to 1: so does the exact number, and both ends are numbers of binary64.
--- Half a coupon in range lies from 0 to 100. Assumes nothing.
-use mathlib.Core.Path.{_≡_, refl, sym, subst}
+-- d = 1 + y / k lies from 1 - 1 / 2j to 1 + 1 / j for a yield y in range, from -1/2 to 1, and k payments a year, j or more: so does the exact number,
+-- and both ends are numbers of binary64 for the j that are used: from 1/2 to 2 for any payments, and from 3/4 to 3/2 for two.
+-- A period's part of a coupon in range lies from 0 to 100. Assumes nothing.
+use mathlib.Core.Path.{_≡_, refl, sym, ap, _∙_, subst}
 use mathlib.Core.Bool.{true, false}
-use Prim.Native.Nat.{ℕ, _+_, _-_, _*_, _≤_, _<_}
-use native.Mathlib.Nat.{le-of-eq, le-trans, mul-assoc, mul-comm, mul-left-comm, mul-le-mul, mul-pos}
+use Prim.Native.Nat.{ℕ, suc, _+_, _-_, _*_, _≤_, _<_}
+use native.Mathlib.Nat.{le-of-eq, le-trans, one-mul, mul-one, mul-assoc, mul-comm, mul-left-comm, mul-le-mul, mul-pos, mul-suc, add-mul}
 use native.Mathlib.Omega.{arith}
-use lib.IntN.{negsuc}
+use lib.IntN.{pos, negsuc}
 use lib.Dec.{T, eqb, lit<, lit≤}
-use lib.Ieee.{Float, nan, inf, fin, binary64, up, down, round, add, div, le}
+use lib.Ieee.{Float, nan, inf, fin, binary64, up, down, round, ofInt, add, div, le}
 use lib.Ieee.Fits.{up-pos, down-pos}
 use lib.Ieee.Bits.{cond-no}
+use lib.Ieee.Digits.{back}
 use lib.Ieee.Order.{round-mono}
-use Rattle.pricer.specs.Price.{one, two, hundred, perPeriod, divisor}
-use Rattle.pricer.specs.Range.{zeroFloat, lowestYield, highestYield, couponInRange, yieldInRange}
-use Rattle.pricer.specs.WellDefined.{threeQuarters}
+use Rattle.pricer.specs.Price.{one, hundred, yearly, perPeriod, divisor}
+use Rattle.pricer.specs.Range.{zeroFloat, lowestYield, highestYield, couponInRange, yieldInRange, paymentsInRange}
+use Rattle.pricer.specs.WellDefined.{oneHalf, threeQuarters}
+use Rattle.pricer.proofs.Payments.{by-payments}
 use Rattle.pricer.proofs.Rounding.{not-zero, minus, sum-is, Within, Exact, within-ends, round-high, round-low}
 
 -- ---- quotients
 
 -- a divisor of j or more
-abbrev AtLeast : ℕ → Float → Type 0
+abbrev pub AtLeast : ℕ → Float → Type 0
 AtLeast j nan = ⊥
 AtLeast j (inf s) = ⊥
 AtLeast j (fin true n d) = ⊥
@@ -51,63 +54,88 @@ module _ (a b c j : ℕ) (P : 0 < c * j) (A : Exact a (c * j)) (B : Exact b (c *
 
 -- ---- the rates of a period
 
-two-from : (j : ℕ) → j * 1 ≤ 2 → AtLeast j two
-two-from j h = (lit< tt, h)
+-- the payments of a year are 1 or more
+pub payments-from : (k : ℕ) → paymentsInRange k ≡ true → AtLeast 1 (yearly k)
+unfolding ofInt round
+payments-from = by-payments (λ (k : ℕ). AtLeast 1 (yearly k)) (lit< tt, lit≤ tt) (lit< tt, lit≤ tt) (lit< tt, lit≤ tt) (lit< tt, lit≤ tt)
 
--- a yield lies from -1/2 to 1, and half of it from -1/4 to 1/2
-half-yield : (y : Float) → T (yieldInRange y) → Within 1 2 4 (perPeriod y)
-unfolding round
-half-yield y h =
-    div-within 1 2 2 2 (lit< tt) refl refl y two
-    (within-ends 1 2 2 lowestYield highestYield y refl refl h) (two-from 2 (lit≤ tt))
+pub two-from : AtLeast 2 (yearly 2)
+unfolding ofInt round
+two-from = (lit< tt, lit≤ tt)
 
--- a coupon lies from 0 to 100, and half of it there too
-pub half-coupon : (c : Float) → T (couponInRange c) → Within 0 100 1 (perPeriod c)
+-- a yield lies from -1/2 to 1, and a period's part of it from -1 / 2j to 1 / j
+yield-part : (j k : ℕ) → 0 < 2 * j → Exact 1 (2 * j) → Exact 2 (2 * j) → AtLeast j (yearly k) →
+    (y : Float) → T (yieldInRange y) → Within 1 2 (2 * j) (perPeriod k y)
+yield-part j k J A B w y h = div-within 1 2 2 j J A B y (yearly k) (within-ends 1 2 2 lowestYield highestYield y refl refl h) w
+
+-- a coupon lies from 0 to 100, and a period's part of it there too
+pub coupon-part : (k : ℕ) → paymentsInRange k ≡ true → (c : Float) → T (couponInRange c) → Within 0 100 1 (perPeriod k c)
 unfolding round
-half-coupon c h =
-    div-within 0 100 1 1 (lit< tt) refl refl c two
-    (within-ends 0 100 1 zeroFloat hundred c refl refl h) (two-from 1 (lit≤ tt))
+coupon-part k K c h =
+    div-within 0 100 1 1 (lit< tt) refl refl c (yearly k)
+    (within-ends 0 100 1 zeroFloat hundred c refl refl h) (payments-from k K)
 
 -- ---- the divisor
 
--- 3/2
-abbrev pub threeHalves : Float
+-- from lo to hi
+abbrev pub Spans : Float → Float → Float → Type 0
+Spans lo hi d = T (le lo d) × T (le d hi)
+
+-- without the factors 1
+plain : (f : ℕ → ℕ → ℕ) (n d : ℕ) → round binary64 false (f (1 * d) (n * 1)) (1 * d) ≡ round binary64 false (f d n) d
+plain f n d = rw (one-mul d, mul-one n)
+
+-- with c + 1 for 2j, from c / (c + 1) to (c + 3) / (c + 1)
+module _ (c : ℕ) (lo hi : Float) (low : round binary64 false c (suc c) ≡ lo) (high : round binary64 false (c + 3) (suc c) ≡ hi) where
+  spans : (x y : ℕ) → 0 < y → c * y ≤ x * suc c → x * suc c ≤ (c + 3) * y → Spans lo hi (round binary64 false x y)
+  spans x y Y h k = (
+    subst (λ (z : Float). T (le z (round binary64 false x y))) low (round-mono binary64 c (suc c) x y (omega arith) Y h),
+    subst (λ (z : Float). T (le (round binary64 false x y) z)) high (round-mono binary64 x y (c + 3) (suc c) Y (omega arith) k),
+  )
+
+  -- 1 + n / d and 1 - n / d
+  above : (n d : ℕ) → 0 < d → n * suc c ≤ 2 * d → Spans lo hi (round binary64 false (d + n) d)
+  above n d D h =
+      let l : c * d ≡ d * c = mul-comm c d in
+      let m : (d + n) * suc c ≡ d * suc c + n * suc c = add-mul d n (suc c) in
+      let p : d * suc c ≡ d * c + d = mul-suc d c in
+      let u : (c + 3) * d ≡ c * d + 3 * d = add-mul c 3 d in
+      spans (d + n) d D (omega arith) (omega arith)
+
+  below : (n d : ℕ) → 0 < d → n ≤ d → n * suc c ≤ d → Spans lo hi (round binary64 false (d - n) d)
+  below n d D N h =
+      let l : c * d ≡ d * c = mul-comm c d in
+      let m : (d - n) * suc c + n * suc c ≡ d * suc c = sym (add-mul (d - n) n (suc c)) ∙ ap (λ (x : ℕ). x * suc c) (back d n N) in
+      let p : d * suc c ≡ d * c + d = mul-suc d c in
+      let u : (c + 3) * d ≡ c * d + 3 * d = add-mul c 3 d in
+      spans (d - n) d D (omega arith) (omega arith)
+
+  one-plus : (q : Float) → Within 1 2 (suc c) q → Spans lo hi (add binary64 one q)
+  unfolding add
+  one-plus nan h = absurd h
+  one-plus (inf s) h = absurd h
+  one-plus (fin false m e) h =
+      let n = m * up e in
+      let d = down e in
+      subst (Spans lo hi) (sym (sum-is (1 * d) (n * 1) (1 * d) ∙ plain _+_ n d)) (above n d (down-pos e) h)
+  one-plus (fin true m e) h =
+      let n = m * up e in
+      let d = down e in
+      let p : n * suc c ≡ n * c + n = mul-suc n c in
+      let k : n * suc c ≤ d = le-trans h (le-of-eq (one-mul d)) in
+      subst (Spans lo hi) (sym (minus (1 * d) (n * 1) (1 * d) (omega arith) ∙ plain _-_ n d)) (below n d (down-pos e) (omega arith) k)
+
+-- 2 and 3/2
+abbrev pub twoFloat : Float
+twoFloat = fin false 1 (pos 1)
+
+abbrev threeHalves : Float
 threeHalves = fin false 3 (negsuc 0)
 
-abbrev Spans : Float → Type 0
-Spans d = T (le threeQuarters d) × T (le d threeHalves)
-
-low : round binary64 false 3 4 ≡ threeQuarters
+pub divisor-spans : (k : ℕ) → paymentsInRange k ≡ true → (y : Float) → T (yieldInRange y) → Spans oneHalf twoFloat (divisor k y)
 unfolding round
-low = refl
+divisor-spans k K y h = one-plus 1 oneHalf twoFloat refl refl (perPeriod k y) (yield-part 1 k (lit< tt) refl refl (payments-from k K) y h)
 
-high : round binary64 false 3 2 ≡ threeHalves
+pub divisor-of-two : (y : Float) → T (yieldInRange y) → Spans threeQuarters threeHalves (divisor 2 y)
 unfolding round
-high = refl
-
--- a fraction from 3/4 to 3/2 rounds to a number from 3/4 to 3/2
-spans : (x y : ℕ) → 0 < y → 3 * y ≤ x * 4 → x * 2 ≤ 3 * y → Spans (round binary64 false x y)
-spans x y Y h k = (
-  subst (λ (z : Float). T (le z (round binary64 false x y))) low (round-mono binary64 3 4 x y (lit< tt) Y h),
-  subst (λ (z : Float). T (le (round binary64 false x y) z)) high (round-mono binary64 x y 3 2 Y (lit< tt) k),
-)
-
-one-plus : (q : Float) → Within 1 2 4 q → Spans (add binary64 one q)
-unfolding add
-one-plus nan h = absurd h
-one-plus (inf s) h = absurd h
-one-plus (fin false m e) h = subst Spans (sym (sum-is (1 * down e) (m * up e * 1) (1 * down e))) (above (m * up e) (down e) (down-pos e) h)
-  where
-    above : (n d : ℕ) → 0 < d → n * 4 ≤ 2 * d → Spans (round binary64 false (1 * d + n * 1) (1 * d))
-    above n d D h = spans (1 * d + n * 1) (1 * d) (omega arith) (omega arith) (omega arith)
-one-plus (fin true m e) h =
-    subst Spans (sym (minus (1 * down e) (m * up e * 1) (1 * down e) (under (m * up e) (down e) h))) (below (m * up e) (down e) (down-pos e) h)
-  where
-    under : (n d : ℕ) → n * 4 ≤ 1 * d → n * 1 ≤ 1 * d
-    under n d h = omega arith
-
-    below : (n d : ℕ) → 0 < d → n * 4 ≤ 1 * d → Spans (round binary64 false (1 * d - n * 1) (1 * d))
-    below n d D h = spans (1 * d - n * 1) (1 * d) (omega arith) (omega arith) (omega arith)
-
-pub divisor-spans : (y : Float) → T (yieldInRange y) → Spans (divisor y)
-divisor-spans y h = one-plus (perPeriod y) (half-yield y h)
+divisor-of-two y h = one-plus 3 threeQuarters threeHalves refl refl (perPeriod 2 y) (yield-part 2 2 (lit< tt) refl refl two-from y h)

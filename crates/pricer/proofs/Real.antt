@@ -1,10 +1,10 @@
 -- The terms of a bond in range are in range, and none of their rates is a NaN, whatever the ends. Assumes nothing.
 use mathlib.Core.Path.{_≡_, sym}
-use mathlib.Core.Bool.{true, not, true≢false}
+use mathlib.Core.Bool.{true, not, _&&_, true≢false}
 use lib.Dec.{T}
 use lib.Ieee.{Float, nan, inf, fin, le, isNan}
 use Rattle.lists.proofs.Cases.{and-left, and-right}
-use Rattle.pricer.specs.Range.{couponInRange, yieldInRange, periodsInRange, termsInRange, inRange}
+use Rattle.pricer.specs.Range.{couponInRange, yieldInRange, periodsInRange, paymentsInRange, termsInRange, inRange}
 use Rattle.pricer.specs.declared.Terms.{Terms}
 use Rattle.pricer.specs.declared.Terms.the-variants.{Zero, Fixed}
 use Rattle.pricer.specs.declared.Bond.{Bond}
@@ -32,7 +32,7 @@ terms-real (Fixed c y) h = (
 
 pub terms-in : (b : Bond) → inRange b ≡ true → termsInRange (b .terms) ≡ true
 unfolding inRange
-terms-in b h = and-right (periodsInRange (b .periods)) (termsInRange (b .terms)) h
+terms-in b h = and-right (periodsInRange (b .periods) && paymentsInRange (b .payments)) (termsInRange (b .terms)) h
 
 pub rates-real : (b : Bond) → inRange b ≡ true → RatesReal (b .terms)
 rates-real b h = terms-real (b .terms) (terms-in b h)

@@ -1,8 +1,8 @@
--- The ranges of a bond's terms, document 01, "The book", and document 02, 2.1, for the yield. Definitions only.
+-- The ranges of a bond, document 01, "The book", and document 02, 2.1, for the yield, 2.3, for the payments. Definitions only.
 use Prim.Native.Nat.{ℕ}
-use mathlib.Core.Bool.{Bool, true, false, _&&_}
+use mathlib.Core.Bool.{Bool, true, false, _&&_, _||_}
 use lib.IntN.{pos, negsuc}
-use lib.Dec.{leb}
+use lib.Dec.{leb, eqb}
 use lib.Ieee.{Float, fin, le}
 use Rattle.pricer.specs.Price.{one, hundred}
 use Rattle.pricer.specs.declared.Terms.{Terms}
@@ -32,15 +32,19 @@ highestYield = one
 abbrev pub yieldInRange : Float → Bool
 yieldInRange y = within lowestYield highestYield y
 
--- "periods (1 to 240 half-years)"
+-- "periods (1 to 240 half-years)", where by document 02 "Periods count payments, still 240 at most"
 abbrev pub periodsInRange : ℕ → Bool
 periodsInRange n = leb 1 n && leb n 240
+
+-- "the payments per year: 1, 2, 4 or 12"
+abbrev pub paymentsInRange : ℕ → Bool
+paymentsInRange k = eqb k 1 || eqb k 2 || eqb k 4 || eqb k 12
 
 -- both ranges, for the rates that each case carries
 abbrev pub termsInRange : Terms → Bool
 termsInRange (Zero y) = yieldInRange y
 termsInRange (Fixed c y) = couponInRange c && yieldInRange y
 
--- a bond whose periods and rates are those of a book
+-- a bond whose periods, payments and rates are those of a book
 unfoldable pub inRange : Bond → Bool
-inRange b = periodsInRange (b .periods) && termsInRange (b .terms)
+inRange b = periodsInRange (b .periods) && paymentsInRange (b .payments) && termsInRange (b .terms)

@@ -12,8 +12,7 @@ ghost use Rattle.page.specs.Page.{eventsOf, printedOf, bufferOf, Reported};
 ghost use Rattle.snapshot.specs.Snapshot.{checkOf, stepNumber, stepBytes, openNumber, openBytes};
 ghost use Rattle.rakhvide_c.specs.Terms.{termBits};
 use book_term::Reading;
-use pricer::Bond;
-use pricer::Terms;
+use pricer::FixedBond;
 
 // 0 for an identifier that passes, 4 for its form, 5 for its check digit.
 #[no_mangle]
@@ -64,24 +63,23 @@ pub extern "C" fn rakhvide_term(term: &[u8], bits: &mut u64) -> u8
 
 // The bits of a zero-coupon bond's price.
 #[no_mangle]
-pub extern "C" fn rakhvide_price_zero(periods: u8, ytm: f64) -> u64
-    ensures { λ r. ⌜ r ≡ toBits binary64 (zeroPrice ytm periods) ⌝ }
+pub extern "C" fn rakhvide_price_zero(periods: u8, payments: u8, ytm: f64) -> u64
+    ensures { λ r. ⌜ r ≡ toBits binary64 (zeroPrice periods payments ytm) ⌝ }
 {
-    pricer::price_bits(Bond {
-        periods,
-        terms: Terms::Zero(ytm),
-    })
+    pricer::bits(pricer::price_zero(periods, payments, ytm))
 }
 
 // The bits of a fixed coupon bond's price.
 #[no_mangle]
-pub extern "C" fn rakhvide_price_fixed(periods: u8, coupon: f64, ytm: f64) -> u64
-    ensures { λ r. ⌜ r ≡ toBits binary64 (fixedPrice (record { periods = periods; coupon = coupon; ytm = ytm })) ⌝ }
+pub extern "C" fn rakhvide_price_fixed(periods: u8, payments: u8, coupon: f64, ytm: f64) -> u64
+    ensures { λ r. ⌜ r ≡ toBits binary64 (fixedPrice (record { periods = periods; coupon = coupon; ytm = ytm }) payments) ⌝ }
 {
-    pricer::price_bits(Bond {
+    let b = FixedBond {
         periods,
-        terms: Terms::Fixed(coupon, ytm),
-    })
+        coupon,
+        ytm,
+    };
+    pricer::bits(pricer::price_fixed(b, payments))
 }
 
 // Runs the events on the fresh table of the book, and writes the page to the front of the buffer and its length. A buffer that is too short is left

@@ -18,9 +18,9 @@ use Rattle.table.specs.declared.Table.{Table}
 
 -- ---- the size of each element, and where in it its numbers of 8 bytes are
 
--- after case and periods
+-- after case, periods and payments
 abbrev pub couponAt : ℕ
-couponAt = 2
+couponAt = 3
 
 -- after the coupon's 8 bytes
 abbrev pub yieldAt : ℕ
@@ -103,9 +103,9 @@ termsFrom s at =
     cond (eqb (getD s at 0) 0) (Zero (numberAt s (at + yieldAt)))
     (Fixed (numberAt s (at + couponAt)) (numberAt s (at + yieldAt)))
 
--- "the terms of each entry": case, periods, coupon, yield
+-- "the terms of each entry": case, periods, payments, coupon, yield
 unfoldable pub bondFrom : List ℕ → ℕ → Bond
-bondFrom s at = record { periods = getD s (at + 1) 0; terms = termsFrom s at }
+bondFrom s at = record { periods = getD s (at + 1) 0; payments = getD s (at + 2) 0; terms = termsFrom s at }
 
 -- "for each job": state, replica, moving, holder, thief, price bits
 unfoldable pub jobFrom : List ℕ → ℕ → Job

@@ -15,7 +15,7 @@ use table::Table;
 
 // ---- the layout, as in specs/Layout.antt: the size of each element and where in it its numbers of 8 bytes are, then where each region starts
 
-pub const COUPON_AT: usize = 2;
+pub const COUPON_AT: usize = 3;
 
 pub const YIELD_AT: usize = COUPON_AT + 8;
 
@@ -78,6 +78,7 @@ fn bond(s: &[u8], at: usize) -> Bond
     let terms = terms(s, at);
     Bond {
         periods: s[at + 1],
+        payments: s[at + 2],
         terms,
     }
 }

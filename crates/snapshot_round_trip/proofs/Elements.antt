@@ -77,13 +77,14 @@ module _ (s : List ℕ) (at : ℕ) where
   record Parts (b : Bond) : Type 0 where
     case-is : getD s at 0 ≡ caseOf (b .terms)
     periods-is : getD s (at + 1) 0 ≡ b .periods
+    payments-is : getD s (at + 2) 0 ≡ b .payments
     coupon-is : le64 s (at + couponAt) ≡ couponBits (b .terms)
     yield-is : le64 s (at + yieldAt) ≡ yieldBits (b .terms)
 
   parts : (b : Bond) → Starts s at (bondBytes b) → Parts b
   unfolding bondBytes
   parts b h =
-      let x : List ℕ = caseOf (b .terms) ∷ b .periods ∷ [] in
+      let x : List ℕ = caseOf (b .terms) ∷ b .periods ∷ b .payments ∷ [] in
       let c : ℕ = couponBits (b .terms) in
       let y : ℕ = yieldBits (b .terms) in
       let xs : List ℕ = x ++ bytes64 c in
@@ -92,6 +93,7 @@ module _ (s : List ℕ) (at : ℕ) where
       record {
         case-is = first _ _ (front x (bytes64 c) f);
         periods-is = byte x (front x (bytes64 c) f) 1 (omega arith);
+        payments-is = byte x (front x (bytes64 c) f) 2 (omega arith);
         coupon-is = number64 s (at + couponAt) c (behind x (bytes64 c) f);
         yield-is = ap (le64 s) (sym e) ∙ number64 s (at + length xs) y (behind xs (bytes64 y) h);
       }
@@ -110,7 +112,7 @@ module _ (s : List ℕ) (at : ℕ) where
 
   pub bond-again : (b : Bond) → RatesFit (b .terms) → Starts s at (bondBytes b) → bondFrom s at ≡ b
   unfolding bondFrom
-  bond-again b f h = let p = parts b h in rw (p .periods-is, terms-again (b .terms) f (p .case-is) (p .coupon-is) (p .yield-is))
+  bond-again b f h = let p = parts b h in rw (p .periods-is, p .payments-is, terms-again (b .terms) f (p .case-is) (p .coupon-is) (p .yield-is))
 
   pub bond-decodable : (b : Bond) → Starts s at (bondBytes b) → termsDecodable s at ≡ true
   bond-decodable b h = let p = parts b h in terms-decodable (b .terms) (p .case-is) (p .coupon-is)

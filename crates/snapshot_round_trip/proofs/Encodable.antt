@@ -88,9 +88,7 @@ rates-term k b c y =
 
 rates-of : (s : List ℕ) → Fit (termOf s)
 unfolding termOf
-rates-of s =
-    cond-elim Fit (eqb (length s) 19) _ Faulty
-    (cond-elim Fit (eqb (getD s 2 0) 0) _ Faulty (rates-term (getD s 0 0) (bareBond s) (le64 s 3) (le64 s 11)) rates-none) rates-none
+rates-of s = cond-elim Fit (eqb (length s) 19) _ Faulty (rates-term (getD s 0 0) (bareBond s) (le64 s 3) (le64 s 11)) rates-none
 
 rates-book : (s : List ℕ) (i : ℕ) → RatesFit (bondOf s i .terms)
 unfolding bondOf termBondAt

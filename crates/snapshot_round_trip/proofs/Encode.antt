@@ -1,7 +1,7 @@
 -- The bytes of a table that passes check 9, read and written again, are the same bytes: no other bytes stand for that table. Assumes nothing.
 use Prim.Native.Nat.{ℕ, _+_, _*_, _<_}
 use mathlib.Core.Path.{_≡_, sym, ap, _∙_}
-use mathlib.Core.Bool.{Bool, true, false, not, true≢false}
+use mathlib.Core.Bool.{Bool, true, false, not, _&&_, true≢false}
 use mathlib.Core.List.{List, [], _∷_}
 use native.Mathlib.Omega.{arith}
 use lib.Dec.{T, eqb, ltb}
@@ -46,7 +46,7 @@ bond-real : (n j : ℕ) (b : Bond) → bondOk n j b ≡ true → RatesReal (b .t
 bond-real n j b h =
     byBool (ltb j n)
     (λ e. rates-real b (rw e at h))
-    (λ e. none-real (b .terms) (and-right (eqb (b .periods) 0) (noTerms (b .terms)) (rw e at h)))
+    (λ e. none-real (b .terms) (and-right (eqb (b .periods) 0 && eqb (b .payments) 0) (noTerms (b .terms)) (rw e at h)))
 
 -- ---- each region is those bytes of s
 

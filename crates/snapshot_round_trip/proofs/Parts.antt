@@ -146,13 +146,19 @@ module _ (s : List ℕ) (small : AreBytes s) where
       ) (start s at 13 (omega arith))
 
   terms-part : (at : ℕ) → at + bondSize ≤ length s
-      → (getD s at 0 ∷ getD s (at + 1) 0 ∷ []) ++ bytes64 (le64 s (at + couponAt)) ++ bytes64 (le64 s (at + yieldAt)) ≡ part s at bondSize
+      → (getD s at 0 ∷ getD s (at + 1) 0 ∷ getD s (at + 2) 0 ∷ []) ++ bytes64 (le64 s (at + couponAt)) ++ bytes64 (le64 s (at + yieldAt))
+      ≡ part s at bondSize
   terms-part at h =
       let e : at + yieldAt ≡ at + couponAt + 8 = omega arith in
       let rates : part s (at + couponAt) 8 ++ part s (at + yieldAt) 8 ≡ part s (at + couponAt) 16 =
       ap (λ (k : ℕ). part s (at + couponAt) 8 ++ part s k 8) e ∙ join s (at + couponAt) 8 8 in
-      rw (part64 (at + couponAt) (omega arith), part64 (at + yieldAt) (omega arith), rates, next s at 1 16 (omega arith))
-      (start s at 17 (omega arith))
+      rw (
+        part64 (at + couponAt) (omega arith),
+        part64 (at + yieldAt) (omega arith),
+        rates,
+        next s at 2 16 (omega arith),
+        next s at 1 17 (omega arith),
+      ) (start s at 18 (omega arith))
 
   -- a rate that is no NaN is written as the bits that it was read from
   rate-again : (at : ℕ) → T (not (isNan (numberAt s at))) → toBits binary64 (numberAt s at) ≡ le64 s at

@@ -161,8 +161,9 @@ module _ {d : List ℕ} {at : ℕ} {e : List ℕ} {m : ℕ} {f : List ℕ} {r : 
   written-flight t p q h = then p q (omega (arith, length-flight t))
 
   module _ {g : List ℕ} {k : ℕ} where
-    pub written-bond : (b : Bond) (v x y : ℕ) → Written d at (v ∷ b .periods ∷ []) e m → Written e m (bytes64 x) f r → Written f r (bytes64 y) g k
-        → v ≡ caseOf (b .terms) → x ≡ couponBits (b .terms) → y ≡ yieldBits (b .terms) → at + bondSize ≤ length d → Written d at (bondBytes b) g k
+    pub written-bond : (b : Bond) (v x y : ℕ) → Written d at (v ∷ b .periods ∷ b .payments ∷ []) e m → Written e m (bytes64 x) f r
+        → Written f r (bytes64 y) g k → v ≡ caseOf (b .terms) → x ≡ couponBits (b .terms) → y ≡ yieldBits (b .terms) → at + bondSize ≤ length d
+        → Written d at (bondBytes b) g k
     unfolding bondBytes
     written-bond b v x y p q s i j l h =
         rw (← i, ← j, ← l)

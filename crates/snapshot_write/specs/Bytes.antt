@@ -43,9 +43,9 @@ abbrev pub yieldBits : Terms → ℕ
 yieldBits (Zero y) = toBits binary64 y
 yieldBits (Fixed c y) = toBits binary64 y
 
--- "the terms of each entry": case, periods, coupon bits, yield bits
+-- "the terms of each entry": case, periods, payments, coupon bits, yield bits
 unfoldable pub bondBytes : Bond → List ℕ
-bondBytes b = (caseOf (b .terms) ∷ b .periods ∷ []) ++ bytes64 (couponBits (b .terms)) ++ bytes64 (yieldBits (b .terms))
+bondBytes b = (caseOf (b .terms) ∷ b .periods ∷ b .payments ∷ []) ++ bytes64 (couponBits (b .terms)) ++ bytes64 (yieldBits (b .terms))
 
 -- "for each job": state, replica, moving, holder, thief, price bits
 unfoldable pub jobBytes : Job → List ℕ

@@ -74,7 +74,7 @@ fn put_bond(out: &mut [u8], at: usize, b: Bond) -> usize
     ensures { λ r. ⌜ Written (now (out .entry)) at (bondBytes b) (now (out .exit)) r ⌝ }
 {
     let t = b.terms;
-    let first = [case_of(t), b.periods];
+    let first = [case_of(t), b.periods, b.payments];
     let a = text::put(out, at, &first);
     let e = put_u64(out, a, coupon_bits(t));
     put_u64(out, e, yield_bits(t))

@@ -188,4 +188,5 @@ fn main() {
     compare(b"faults.bin");
     compare(b"pairs.bin");
     compare(b"random.bin");
+    compare(b"payments.bin");
 }

@@ -6,8 +6,13 @@ use table::Machine;
 use table::Message;
 use table::Table;
 
+// With two payments a year.
 fn bond(periods: u8, terms: Terms) -> Bond {
-    Bond { periods, terms }
+    Bond {
+        periods,
+        payments: 2,
+        terms,
+    }
 }
 
 // Entries 0 and 2 with a fixed coupon, entry 1 a zero.
@@ -171,11 +176,15 @@ fn with_count(t: Table, field: u8, value: u8) -> Table {
     u
 }
 
-// Fields 4 to 7: the periods, a zero's yield, a fixed coupon bond's coupon, a fixed coupon bond's yield.
+// Fields 4 to 7 and 30: the periods, a zero's yield, a fixed coupon bond's coupon, a fixed coupon bond's yield, the payments.
 fn new_bond(b: Bond, field: u8, value: u8) -> Bond {
+    let mut u = b;
     if field == 4 {
-        let mut u = b;
         u.periods = value;
+        return u;
+    }
+    if field == 30 {
+        u.payments = value;
         return u;
     }
     match field {
@@ -229,16 +238,20 @@ fn new_message(m: Message, field: u8, value: u8) -> Message {
     w
 }
 
-// Fields 4 to 13: an entry's bond or job.
-fn with_entry(t: Table, field: u8, j: usize, value: u8) -> Table {
+// Fields 4 to 7 and 30: an entry's bond.
+fn with_bond(t: Table, field: u8, j: usize, value: u8) -> Table {
     let mut u = t;
-    if 64 <= j {
-        return u;
-    }
-    if field <= 7 {
+    if j < 64 {
         let b = t.bonds[j];
         u.bonds[j] = new_bond(b, field, value);
-    } else {
+    }
+    u
+}
+
+// Fields 8 to 13: an entry's job.
+fn with_job(t: Table, field: u8, j: usize, value: u8) -> Table {
+    let mut u = t;
+    if j < 64 {
         let v = t.jobs[j];
         u.jobs[j] = new_job(v, field, value);
     }
@@ -284,9 +297,12 @@ fn with_message(t: Table, field: u8, i: usize, value: u8) -> Table {
 pub fn changed(t: Table, field: u8, place: usize, value: u8) -> Table {
     match field {
         0..=3 => with_count(t, field, value),
-        4..=13 => with_entry(t, field, place, value),
+        4..=7 => with_bond(t, field, place, value),
+        8..=13 => with_job(t, field, place, value),
         14..=20 => with_machine(t, field, place, value),
         21..=22 => with_cell(t, field, place, value),
-        _ => with_message(t, field, place, value),
+        23..=29 => with_message(t, field, place, value),
+        30 => with_bond(t, field, place, value),
+        _ => t,
     }
 }

@@ -163,4 +163,5 @@ fn main() {
     compare(b"identifiers_2.bin", Content::Identifiers);
     compare(b"terms.bin", Content::TermsAndPrices);
     compare(b"prices.bin", Content::TermsAndPrices);
+    compare(b"prices_by_payments.bin", Content::TermsAndPrices);
 }

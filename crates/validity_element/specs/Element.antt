@@ -27,11 +27,12 @@ abbrev pub noTerms : Terms → Bool
 noTerms (Zero y) = eqb (toBits binary64 y) 0
 noTerms (Fixed c y) = false
 
--- what stands where no entry is: no periods, and a zero's terms whose bits are clear
+-- what stands where no entry is: no periods, no payments, and a zero's terms whose bits are clear
 abbrev pub emptyBond : Bond → Bool
-emptyBond x = eqb (x .periods) 0 && noTerms (x .terms)
+emptyBond x = eqb (x .periods) 0 && eqb (x .payments) 0 && noTerms (x .terms)
 
--- "term outside its range" for an entry, "an unused part not 0" past the last one
+-- "term outside its range" for an entry, and "an entry's terms in a table hold one of these four" payments (document 02);
+-- "an unused part not 0" past the last one
 abbrev pub bondOk : ℕ → ℕ → Bond → Bool
 bondOk entries j x = cond (ltb j entries) (inRange x) (emptyBond x)
 

@@ -28,7 +28,7 @@ fn empty_bond(x: Bond) -> bool
     ensures { λ r. ⌜ r ≡ emptyBond x ⌝ }
 {
     let y = x.terms;
-    (x.periods == 0) & no_terms(y)
+    (x.periods == 0) & (x.payments == 0) & no_terms(y)
 }
 
 pub fn bond_ok(entries: u8, j: u8, x: Bond) -> bool

@@ -8,8 +8,12 @@ use crate::inputs::{self, Draft};
 use crate::library::{Library, PAGE_BUFFER};
 use crate::rng::Rng;
 use second::book::{self, Book};
+use second::price::{Bond, PAYMENTS};
 use second::table::{Table, BYTES, ENTRIES, PRICED};
 use second::{check, events, isin, page, price};
+
+/// The length of a snapshot before request 2.3, which is none now.
+const BEFORE_PAYMENTS: usize = BYTES - ENTRIES;
 
 /// How much was compared (events, tables or inputs), or what differs.
 pub type Outcome = Result<u64, String>;
@@ -88,35 +92,45 @@ pub fn term(trial: &mut Trial, rng: &mut Rng) -> Outcome {
         None => (7, before),
     };
     trial.coverage.terms[usize::from(answer.0)] += 1;
-    count_yield(trial, &term);
+    match book::term(&term) {
+        Some(bond) => {
+            trial.coverage.count_below_zero("term accepted", (bond.ytm() < 0.0).into());
+            trial.coverage.count_below_zero("term accepted at -0.5", (bond.ytm() == -0.5).into());
+            trial.coverage.count_payments("term accepted", term[2]);
+        }
+        None => count_refused(&mut trial.coverage, &term),
+    }
     same(&format!("term {term:02X?}"), trial.library.term(&term, before), answer)?;
     Ok(1)
 }
 
-/// A term that is accepted with a yield below 0, or that is refused for the yield next below -0.5 alone.
-fn count_yield(trial: &mut Trial, term: &[u8]) {
-    let coverage = &mut trial.coverage;
-    match book::term(term) {
-        Some(bond) => {
-            coverage.count_below_zero("term accepted", (bond.ytm() < 0.0).into());
-            coverage.count_below_zero("term accepted at -0.5", (bond.ytm() == -0.5).into());
+/// A term that is refused for the yield next below -0.5 alone, or for its third byte alone.
+fn count_refused(coverage: &mut Coverage, term: &[u8]) {
+    if term.ends_with(&(-0.5f64).next_down().to_le_bytes()) {
+        let at_end = [&term[..term.len() - 8], &(-0.5f64).to_le_bytes()].concat();
+        coverage.count_below_zero("term refused next below -0.5", book::term(&at_end).is_some().into());
+    }
+    if let [kind, periods, byte, rates @ ..] = term {
+        if book::term(&[&[*kind, *periods, 0][..], rates].concat()).is_some() {
+            coverage.count_payments("term refused for it alone", *byte);
         }
-        None if term.ends_with(&(-0.5f64).next_down().to_le_bytes()) => {
-            let at_end = [&term[..term.len() - 8], &(-0.5f64).to_le_bytes()].concat();
-            coverage.count_below_zero("term refused next below -0.5", book::term(&at_end).is_some().into());
-        }
-        None => {}
     }
 }
 
 pub fn price(trial: &mut Trial, rng: &mut Rng) -> Outcome {
     let periods = rng.byte();
+    let payments = if rng.chance(3, 4) { rng.pick(inputs::PAYMENTS) } else { rng.byte() };
     let (coupon, ytm) = (inputs::float(rng), inputs::float(rng));
-    let what = format!("price of {periods} periods, coupon {coupon:?}, yield {ytm:?}");
-    let library = (trial.library.price_zero(periods, ytm), trial.library.price_fixed(periods, coupon, ytm));
-    let second = (price::price_zero(periods, ytm), price::price_fixed(periods, coupon, ytm));
+    let what = format!("price of {periods} periods, {payments} a year, coupon {coupon:?}, yield {ytm:?}");
+    let library = (
+        trial.library.price_zero(periods, payments, ytm),
+        trial.library.price_fixed(periods, payments, coupon, ytm),
+    );
+    let second =
+        (price::price_zero(periods, payments, ytm), price::price_fixed(periods, payments, coupon, ytm));
     trial.coverage.prices += 2;
     trial.coverage.count_below_zero("price", 2 * usize::from((-0.5..0.0).contains(&ytm)));
+    trial.coverage.count_payments("price", payments);
     same(&what, library, second)?;
     Ok(1)
 }
@@ -133,11 +147,9 @@ pub fn book(trial: &mut Trial, rng: &mut Rng) -> Outcome {
         2 => bytes.extend([0; 31].iter().take(1 + rng.below(31))),
         _ => {}
     }
-    let read = Book::read(&bytes);
-    let number = read.err().unwrap_or(0);
+    let number = Book::read(&bytes).err().unwrap_or(0);
     trial.coverage.books[usize::from(number)] += 1;
-    let low = read.is_ok_and(|book| (0..book.entries).any(|entry| book.bond(entry).ytm() < 0.0));
-    trial.coverage.count_below_zero("book accepted", low.into());
+    count_book(&mut trial.coverage, &bytes);
     same(&format!("book {bytes:02X?}"), trial.library.book(&bytes), number)?;
     opened(trial, rng, &bytes)?;
     let events: Vec<u8> = (0..rng.below(12)).map(|_| rng.number(8)).collect();
@@ -145,9 +157,33 @@ pub fn book(trial: &mut Trial, rng: &mut Rng) -> Outcome {
     Ok(1)
 }
 
+/// An accepted book's yields and third bytes; the third bytes that a book is refused for and nothing else.
+fn count_book(coverage: &mut Coverage, bytes: &[u8]) {
+    match Book::read(bytes) {
+        Ok(book) => {
+            let low = (0..book.entries).any(|entry| book.bond(entry).ytm() < 0.0);
+            coverage.count_below_zero("book accepted", low.into());
+            for entry in 0..book.entries {
+                coverage.count_payments("entry of a book accepted", book.term(entry)[2]);
+            }
+        }
+        Err(7) => {
+            let first = 4 + book::IDENTIFIER * usize::from(bytes[2]) + 2;
+            let third_bytes = (first..bytes.len()).step_by(book::TERM);
+            let bad: Vec<usize> = third_bytes.filter(|&at| !inputs::PAYMENTS.contains(&bytes[at])).collect();
+            let mut mended = bytes.to_vec();
+            bad.iter().for_each(|&at| mended[at] = 0);
+            let bad = bad.iter().filter(|_| Book::read(&mended).is_ok());
+            bad.for_each(|&at| coverage.count_payments("book refused for it alone", bytes[at]));
+        }
+        Err(_) => {}
+    }
+}
+
 /// The table opened from a book, in a buffer that is mostly of the right length.
 fn opened(trial: &mut Trial, rng: &mut Rng, book: &[u8]) -> Result<Vec<u8>, String> {
-    let length = if rng.chance(1, 20) { rng.pick(&[0, 1, BYTES - 1, BYTES + 1]) } else { BYTES };
+    let other = [0, 1, BEFORE_PAYMENTS, BYTES - 1, BYTES + 1];
+    let length = if rng.chance(1, 20) { rng.pick(&other) } else { BYTES };
     let before: Vec<u8> = (0..length).map(|at| (at % 251) as u8).collect();
     let (number, after) = match Book::read(book) {
         Err(number) => (number, before.clone()),
@@ -204,9 +240,10 @@ pub fn run(trial: &mut Trial, rng: &mut Rng) -> Outcome {
         trial.coverage.answers.count(&event, number);
         trial.coverage.table(&table);
     }
-    let priced = table.bonds.iter().zip(&table.jobs).filter(|(_, job)| job.state == PRICED);
-    let low = priced.filter(|(bond, _)| bond.ytm() < 0.0).count();
-    trial.coverage.count_below_zero("job priced in a run", low);
+    for (bond, _) in table.bonds.iter().zip(&table.jobs).filter(|(_, job)| job.state == PRICED) {
+        trial.coverage.count_below_zero("job priced in a run", (bond.ytm() < 0.0).into());
+        trial.coverage.count_payments("job priced in a run", bond.payments);
+    }
     extend_list(rng, &mut list, &table);
     same_page(trial, rng, &bytes, &list)?;
     trial.coverage.runs += 1;
@@ -292,7 +329,7 @@ pub fn damaged(trial: &mut Trial, rng: &mut Rng) -> Outcome {
             (0..rng.pick(&[1, 1, 1, 2])).for_each(|_| damage::harm(rng, &mut snapshot));
         }
         if rng.chance(1, 40) {
-            snapshot.resize(rng.pick(&[0, 1, BYTES - 1, BYTES + 1]), 0);
+            snapshot.resize(rng.pick(&[0, 1, BEFORE_PAYMENTS, BYTES - 1, BYTES + 1]), 0);
         }
         one_damaged(trial, rng, snapshot, &event).map_err(|text| format!("damaged table {number}: {text}"))?;
     }
@@ -314,9 +351,11 @@ fn one_damaged(trial: &mut Trial, rng: &mut Rng, mut snapshot: Vec<u8>, event: &
         Some(table) => check::check(table).err().map(Some),
     };
     let number = if fault.is_some() { 9 } else { 0 };
+    trial.coverage.without_payments += u64::from(snapshot.len() == BEFORE_PAYMENTS);
     same(&format!("check ({fault:?})"), trial.library.check(&snapshot), number)?;
     if let Some(table) = &read {
         count_checked_yield(trial, table, fault.flatten());
+        count_checked_payments(trial, table, fault.flatten());
     }
     match (fault, read) {
         (None, Some(mut table)) => {
@@ -344,6 +383,43 @@ fn count_checked_yield(trial: &mut Trial, table: &Table, fault: Option<check::Fa
             trial.coverage.count_below_zero("table refused next below -0.5", low);
         }
         _ => {}
+    }
+}
+
+/// The payments of a table that passes check 9, and those that it fails it for and for nothing else.
+fn count_checked_payments(trial: &mut Trial, table: &Table, fault: Option<check::Fault>) {
+    let coverage = &mut trial.coverage;
+    let entries = usize::from(table.entries).min(ENTRIES);
+    match fault {
+        None => table.bonds[..entries]
+            .iter()
+            .for_each(|bond| coverage.count_payments("entry of a table passed", bond.payments)),
+        Some(check::Fault::TermOutOfRange) => {
+            let bad = |bond: &Bond| !PAYMENTS.contains(&bond.payments);
+            count_mended(coverage, table, 0..entries, bad, 2, "table refused for it alone");
+        }
+        Some(check::Fault::UnusedTerm) => {
+            let bad = |bond: &Bond| bond.payments != 0;
+            count_mended(coverage, table, entries..ENTRIES, bad, 0, "unused entry refused for it");
+        }
+        _ => {}
+    }
+}
+
+/// The bad payments of some entries, where the table passes with others in their place.
+fn count_mended(
+    coverage: &mut Coverage,
+    table: &Table,
+    entries: std::ops::Range<usize>,
+    bad: fn(&Bond) -> bool,
+    good: u8,
+    place: &'static str,
+) {
+    let mut mended = table.clone();
+    mended.bonds[entries.clone()].iter_mut().filter(|bond| bad(bond)).for_each(|bond| bond.payments = good);
+    if check::check(&mended).is_ok() {
+        let found = table.bonds[entries].iter().filter(|bond| bad(bond));
+        found.for_each(|bond| coverage.count_payments(place, bond.payments));
     }
 }
 

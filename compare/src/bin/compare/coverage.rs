@@ -1,5 +1,6 @@
 //! What the input reached: printed at the end, and held to what it must reach.
 
+use crate::inputs;
 use second::check::Fault;
 use second::table::*;
 use std::collections::BTreeMap;
@@ -45,6 +46,20 @@ const BELOW_ZERO: [&str; 8] = [
     "table refused next below -0.5",
 ];
 
+/// What is to be met of payments per year: where, and the numbers or bytes there. None is any that is
+/// neither 0 nor allowed.
+const PAYMENTS: [(&str, &[Option<u8>]); 9] = [
+    ("term accepted", &[Some(0), Some(1), Some(2), Some(4), Some(12)]),
+    ("term refused for it alone", &[None]),
+    ("price", &[Some(0), Some(1), Some(2), Some(4), Some(12), None]),
+    ("entry of a book accepted", &[Some(0), Some(1), Some(2), Some(4), Some(12)]),
+    ("book refused for it alone", &[None]),
+    ("job priced in a run", &[Some(1), Some(2), Some(4), Some(12)]),
+    ("entry of a table passed", &[Some(1), Some(2), Some(4), Some(12)]),
+    ("table refused for it alone", &[Some(0), None]),
+    ("unused entry refused for it", &[Some(1), Some(2), Some(4), Some(12)]),
+];
+
 /// Answers by event code (0: no code of document 01) and number.
 #[derive(Default)]
 pub struct Answers([[u64; 23]; 8]);
@@ -83,6 +98,10 @@ pub struct Coverage {
     pub prices: u64,
     /// By the names of `BELOW_ZERO`.
     pub below_zero: BTreeMap<&'static str, u64>,
+    /// By the names of `PAYMENTS` and the number.
+    pub payments: BTreeMap<(&'static str, Option<u8>), u64>,
+    /// Snapshots of the length that they had without payments.
+    pub without_payments: u64,
     pub pages: u64,
     pub longest_page: usize,
     pub runs: u64,
@@ -122,6 +141,12 @@ impl Coverage {
         }
     }
 
+    /// Payments were met at a place of `PAYMENTS`.
+    pub fn count_payments(&mut self, place: &'static str, payments: u8) {
+        let payments = Some(payments).filter(|payments| inputs::PAYMENTS.contains(payments));
+        *self.payments.entry((place, payments)).or_default() += 1;
+    }
+
     pub fn table(&mut self, table: &Table) {
         self.most_in_flight = self.most_in_flight.max(table.in_flight);
         let largest = table.jobs.iter().map(|job| job.replica).max();
@@ -145,6 +170,7 @@ impl Coverage {
         for (name, count) in &self.below_zero {
             println!("  {name:29} {count}");
         }
+        self.print_payments();
         println!(
             "runs         {}; pages {}, the longest of {} bytes",
             self.runs, self.pages, self.longest_page
@@ -156,6 +182,18 @@ impl Coverage {
             println!("  {:8} {outcome:16} {count}", KINDS[usize::from(*kind)]);
         }
         self.print_damaged();
+    }
+
+    fn print_payments(&self) {
+        println!("payments per year");
+        for (place, all) in PAYMENTS {
+            let counts = all.iter().map(|payments| {
+                let name = payments.map_or("other".into(), |payments| payments.to_string());
+                format!("{name}: {}", self.payments.get(&(place, *payments)).unwrap_or(&0))
+            });
+            println!("  {place:29} {}", counts.collect::<Vec<_>>().join("  "));
+        }
+        println!("  {:29} {}", "snapshot of the old length", self.without_payments);
     }
 
     fn print_damaged(&self) {
@@ -185,6 +223,13 @@ impl Coverage {
         missing.extend((1..=7u8).filter(|n| self.books[usize::from(*n)] == 0).map(|n| format!("book {n}")));
         let never = BELOW_ZERO.iter().filter(|name| !self.below_zero.contains_key(*name));
         missing.extend(never.map(|name| format!("yield below 0: {name}")));
+        let payments =
+            PAYMENTS.iter().flat_map(|(place, all)| all.iter().map(move |payments| (*place, *payments)));
+        let never = payments.filter(|both| !self.payments.contains_key(both));
+        missing.extend(never.map(|(place, payments)| format!("payments {payments:?}: {place}")));
+        if self.without_payments == 0 {
+            missing.push("snapshot of the old length".into());
+        }
         if self.most_in_flight < 128 {
             missing.push("128 in flight".into());
         }

@@ -4,7 +4,7 @@ use crate::fields;
 use crate::inputs;
 use crate::rng::Rng;
 use second::book;
-use second::price::Terms;
+use second::price::{Terms, PAYMENTS};
 use second::table::*;
 
 /// One change after which the table still passes check 9 (some are none at all).
@@ -144,12 +144,13 @@ fn reserve_for(rng: &mut Rng, table: &mut Table, message: &Message) {
 
 /// One change that breaks a condition of row 9 which a changed field alone seldom breaks, and no other.
 pub fn targeted(rng: &mut Rng, table: &mut Table) {
-    match rng.below(6) {
+    match rng.below(8) {
         0 => silence(table, 0, true),
         1 => silence(table, 1 + rng.number(table.machines - 1), false),
         2 => misdirect(rng, table),
         3 => overtake(rng, table),
         4 if table.entries > 0 => pass_an_end(rng, table),
+        5 | 6 => change_payments(rng, table),
         _ => {
             let (machine, of) = (rng.number(table.machines), rng.number(table.machines));
             table.told[usize::from(machine)][usize::from(of)] = 1;
@@ -184,6 +185,19 @@ fn pass_an_end(rng: &mut Rng, table: &mut Table) {
         Terms::Zero { .. } => Terms::Zero { ytm },
         Terms::Fixed { coupon, .. } => Terms::Fixed { coupon, ytm },
     };
+}
+
+/// Some bond has no payments, or a number of them that no book has; or an unused entry has payments.
+fn change_payments(rng: &mut Rng, table: &mut Table) {
+    let entry = rng.below(ENTRIES);
+    let used = rng.below(usize::from(table.entries));
+    if entry >= usize::from(table.entries) {
+        table.bonds[entry].payments = rng.pick(&PAYMENTS);
+    } else if rng.chance(1, 4) {
+        table.bonds[used].payments = 0;
+    } else {
+        table.bonds[used].payments = rng.pick(inputs::OTHER_BYTES);
+    }
 }
 
 /// Some replica number becomes one more than the largest that passes.
@@ -227,7 +241,7 @@ pub fn harm(rng: &mut Rng, bytes: &mut [u8]) {
 fn value(rng: &mut Rng, bytes: &[u8], at: usize) -> u8 {
     let (machines, entries, old) = (bytes[0], bytes[1], bytes[at]);
     let told = bytes[TOLD_AT..TOLD_AT + MACHINES].iter().filter(|&&flag| flag == 1).count() as u8;
-    let near = [machines, entries, told + 1, old, 0, 1, 2, 9, 16, 64, 128, 240];
+    let near = [machines, entries, told + 1, old, 0, 1, 2, 4, 9, 12, 16, 64, 128, 240];
     match rng.below(6) {
         0 => rng.byte(),
         1 => rng.pick(&near).wrapping_add(1),

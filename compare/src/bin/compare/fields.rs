@@ -19,7 +19,7 @@ const REGIONS: [Region; 7] = [
         start: TERMS_AT,
         count: ENTRIES,
         width: TERM_BYTES,
-        fields: &[("case", 1), ("periods", 1), ("coupon", 8), ("yield", 8)],
+        fields: &[("case", 1), ("periods", 1), ("payments", 1), ("coupon", 8), ("yield", 8)],
     },
     Region {
         name: "jobs",

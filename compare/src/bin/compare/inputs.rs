@@ -4,6 +4,10 @@ use crate::rng::Rng;
 use second::book::{IDENTIFIER, TERM};
 use second::isin;
 
+/// The third bytes of a term that pass, and neighbours and sums of them, which do not.
+pub const PAYMENTS: &[u8] = &[0, 1, 2, 4, 12];
+pub const OTHER_BYTES: &[u8] = &[3, 5, 6, 8, 11, 13, 24, 128, 255];
+
 const LETTERS: &[u8] = b"ABCDEFGHIJKLMNOPQRSTUVWXYZ";
 const LETTERS_AND_DIGITS: &[u8] = b"ABCDEFGHIJKLMNOPQRSTUVWXYZ0123456789";
 
@@ -78,7 +82,7 @@ pub fn term(rng: &mut Rng) -> Vec<u8> {
     let kind = 1 + rng.number(2);
     let periods = if rng.chance(1, 8) { rng.pick(&[1, 2, 239, 240]) } else { 1 + rng.number(240) };
     let coupon = if kind == 1 { 0.0 } else { rate(rng, 100.0) };
-    [&[kind, periods, 0][..], &coupon.to_le_bytes(), &ytm(rng).to_le_bytes()].concat()
+    [&[kind, periods, rng.pick(PAYMENTS)][..], &coupon.to_le_bytes(), &ytm(rng).to_le_bytes()].concat()
 }
 
 /// Changes one field, or the length, to values inside and outside the rules. One of another length stays.
@@ -86,14 +90,15 @@ pub fn damage_term(rng: &mut Rng, term: &mut Vec<u8>) {
     if term.len() != TERM {
         return;
     }
-    match rng.below(12) {
+    match rng.below(14) {
         0 => term[0] = rng.pick(&[0, 1, 2, 3, 255]),
         1 => term[1] = rng.pick(&[0, 1, 239, 240, 241, 255]),
         2 => term[1] = rng.byte(),
-        3 => term[2] = rng.pick(&[0, 1, 2, 128, 255]),
-        4..=6 => term[3..11].copy_from_slice(&float(rng).to_le_bytes()),
-        7..=9 => term[11..19].copy_from_slice(&float(rng).to_le_bytes()),
-        10 => term[rng.below(19)] = rng.byte(),
+        3 => term[2] = rng.pick(OTHER_BYTES),
+        4 => term[2] = rng.byte(),
+        5..=7 => term[3..11].copy_from_slice(&float(rng).to_le_bytes()),
+        8..=10 => term[11..19].copy_from_slice(&float(rng).to_le_bytes()),
+        11 | 12 => term[rng.below(19)] = rng.byte(),
         _ if rng.chance(1, 2) => term.truncate(rng.below(19)),
         _ => term.extend([0, 0]),
     }

@@ -10,8 +10,8 @@ mod c {
         pub fn rakhvide_identifier(s: *const u8, n: usize) -> u8;
         pub fn rakhvide_book(book: *const u8, n: usize) -> u8;
         pub fn rakhvide_term(term: *const u8, n: usize, bits: *mut u64) -> u8;
-        pub fn rakhvide_price_zero(periods: u8, ytm: f64) -> u64;
-        pub fn rakhvide_price_fixed(periods: u8, coupon: f64, ytm: f64) -> u64;
+        pub fn rakhvide_price_zero(periods: u8, payments: u8, ytm: f64) -> u64;
+        pub fn rakhvide_price_fixed(periods: u8, payments: u8, coupon: f64, ytm: f64) -> u64;
         pub fn rakhvide_page(
             book: *const u8,
             nb: usize,
@@ -121,12 +121,12 @@ impl Library {
         (number, bits)
     }
 
-    pub fn price_zero(&mut self, periods: u8, ytm: f64) -> u64 {
-        unsafe { c::rakhvide_price_zero(periods, ytm) }
+    pub fn price_zero(&mut self, periods: u8, payments: u8, ytm: f64) -> u64 {
+        unsafe { c::rakhvide_price_zero(periods, payments, ytm) }
     }
 
-    pub fn price_fixed(&mut self, periods: u8, coupon: f64, ytm: f64) -> u64 {
-        unsafe { c::rakhvide_price_fixed(periods, coupon, ytm) }
+    pub fn price_fixed(&mut self, periods: u8, payments: u8, coupon: f64, ytm: f64) -> u64 {
+        unsafe { c::rakhvide_price_fixed(periods, payments, coupon, ytm) }
     }
 
     /// The answer, the length, and the buffer after the call.

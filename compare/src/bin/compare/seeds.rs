@@ -16,8 +16,7 @@ pub fn write(folder: &Path) -> std::io::Result<()> {
         let inputs = [
             inputs::identifier(rng),
             inputs::term(rng),
-            [&[rng.byte()][..], &inputs::float(rng).to_le_bytes(), &inputs::float(rng).to_le_bytes()]
-                .concat(),
+            periods_payments_rates(rng),
             book_and_events(rng),
             book_and_events(rng),
             cases::reached(rng).to_bytes().to_vec(),
@@ -30,6 +29,11 @@ pub fn write(folder: &Path) -> std::io::Result<()> {
         }
     }
     Ok(())
+}
+
+fn periods_payments_rates(rng: &mut Rng) -> Vec<u8> {
+    let first = [rng.byte(), rng.pick(inputs::PAYMENTS)];
+    [&first[..], &inputs::float(rng).to_le_bytes(), &inputs::float(rng).to_le_bytes()].concat()
 }
 
 /// A small book after its length, and a run.

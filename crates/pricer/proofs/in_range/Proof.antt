@@ -6,7 +6,7 @@ use Rattle.pricer.proofs.in_range.Tie as tie
 
 returns : tie.Need-returns
 unfolding inRange
-returns c = rw (c .terms-in-range .ensures)
+returns c = rw (c .terms-in-range .ensures, c .before .payments-in-range .ensures)
 
 pub in-range-spec : {M : Type 1} → statement M
-in-range-spec = tie.close (tie.spec (λ c κs. search needs) returns)
+in-range-spec = tie.close (tie.spec (λ c κs. search needs) (λ c κs. search needs) returns)

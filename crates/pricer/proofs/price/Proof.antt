@@ -1,17 +1,16 @@
 -- `pricer::price` meets its contract: in each case what the callee ensures is the definition at the terms of that case. Assumes nothing.
-use mathlib.Core.Path.{sym, ap, _∙_}
-use Rattle.pricer.specs.Price.{priceBy, priceOf}
+use Rattle.pricer.specs.Price.{priceOf}
 use borrow.Author.Needs.{needs}
 use Rattle.pricer.proofs.price.Statement.{statement}
 use Rattle.pricer.proofs.price.Tie as tie
 
 returns : tie.Need-returns
 unfolding priceOf
-returns c = c .price-zero .ensures ∙ sym (ap (priceBy (c .before .before .before .before .args .b .periods)) (c .before .before .t .given .1))
+returns c = rw (c .price-zero .ensures, c .before .before .t .given .1)
 
 returns-2 : tie.Need-returns-2
 unfolding priceOf
-returns-2 c = c .price-fixed .ensures ∙ sym (ap (priceBy (c .before .before .before .before .args .b .periods)) (c .before .before .t2 .given .1))
+returns-2 c = rw (c .price-fixed .ensures, c .before .before .t2 .given .1)
 
 pub price-spec : {M : Type 1} → statement M
 price-spec =

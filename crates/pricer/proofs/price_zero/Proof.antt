@@ -1,20 +1,21 @@
 -- `pricer::price_zero` meets its contract. The invariant: after i periods p is the definition's value at i. The measure: the periods left.
 -- Assumes nothing.
+use borrow.Author.Needs.{needs}
 use Prim.Native.Nat.{_≤_, _-_}
 use native.Mathlib.Nat.{le-antisymm}
 use native.Mathlib.Omega.{arith}
 use mathlib.Core.Path.{_≡_, refl, ap, _∙_}
 use lib.Ieee.{ofBits}
-use Rattle.pricer.specs.Price.{zeroAfter, divisor}
+use Rattle.pricer.specs.Price.{zeroAfter}
 use Rattle.pricer.proofs.Steps.{zero-step}
 use Rattle.pricer.proofs.price_zero.Statement.{statement}
 use Rattle.pricer.proofs.price_zero.Tie as tie
 
 abbrev Inv-loop : tie.InvT-loop
-Inv-loop periods ytm d p₀ i₀ p i = (i ≤ periods) × (p ≡ zeroAfter d i)
+Inv-loop periods payments ytm d p₀ i₀ p i = (i ≤ periods) × (p ≡ zeroAfter d i)
 
 abbrev μ-loop : tie.MeasureT-loop
-μ-loop periods ytm d p₀ i₀ p i = periods - i
+μ-loop periods payments ytm d p₀ i₀ p i = periods - i
 
 loop-holds : tie.Need-loop-holds Inv-loop μ-loop
 unfolding ofBits zeroAfter
@@ -33,7 +34,7 @@ returns : tie.Need-returns Inv-loop μ-loop
 unfolding ofBits
 returns c =
     let l = c .before in
-    l .loop .inv .1 ∙ ap (zeroAfter (divisor (l .before .args .ytm))) (le-antisymm (l .loop .inv .0) (c .loop-test .left))
+    rw (← l .before .yearly .ensures) (l .loop .inv .1 ∙ ap (zeroAfter _) (le-antisymm (l .loop .inv .0) (c .loop-test .left)))
 
 pub price-zero-spec : {M : Type 1} → statement M
-price-zero-spec = tie.close (tie.spec Inv-loop μ-loop loop-holds add-i loop-less loop-again returns)
+price-zero-spec = tie.close (tie.spec Inv-loop μ-loop (λ c κs. search needs) loop-holds add-i loop-less loop-again returns)

@@ -6,7 +6,15 @@ use Rattle.snapshot_read.proofs.bond.Tie as tie
 
 returns : tie.Need-returns
 unfolding bondFrom
-returns c = rw (c .before .terms .ensures)
+returns c = rw (c .before .before .terms .ensures)
 
 pub bond-spec : {M : Type 1} → statement M
-bond-spec = tie.close (tie.spec (λ c κs. search needs) (λ c. search needs) (λ c. search needs) returns)
+bond-spec =
+    tie.close
+    (tie.spec
+    (λ c κs. search needs)
+    (λ c. search needs)
+    (λ c. search needs)
+    (λ c. search needs)
+    (λ c. search needs)
+    returns)
