@@ -35,7 +35,7 @@ bits-same : (b : Bond) → b .payments ≡ 2 → Same b
 unfolding priceBits priceOf bitsBefore
 bits-same b e = rw (e, price-same (b .periods) (b .terms))
 
--- no bond has no period
+-- where there is no bond there is no period, and either price is 100
 none-same : Same noBond
 unfolding priceBits priceOf bitsBefore zeroAfter
 none-same = refl
@@ -46,22 +46,22 @@ abbrev SameIn : Reading → Type 0
 SameIn r = Same (bondIn r)
 
 module _ (lo : Float) where
-  checked-same : (b : Bond) → b .payments ≡ 2 → SameIn (checkedBefore lo b)
+  checked-bits : (b : Bond) → b .payments ≡ 2 → SameIn (checkedBefore lo b)
   unfolding checkedBefore
-  checked-same b e = cond-elim SameIn (inRangeBefore lo b) (Valid b) Faulty (bits-same b e) none-same
+  checked-bits b e = cond-elim SameIn (inRangeBefore lo b) (Valid b) Faulty (bits-same b e) none-same
 
-  from-same : (k : ℕ) (b : Bond) (c y : ℕ) → b .payments ≡ 2 → SameIn (termFromBefore lo k b c y)
+  from-bits : (k : ℕ) (b : Bond) (c y : ℕ) → b .payments ≡ 2 → SameIn (termFromBefore lo k b c y)
   unfolding termFromBefore
-  from-same k b c y e =
-      cond-elim SameIn (eqb k 1) _ _ (cond-elim SameIn (eqb c 0) _ Faulty (checked-same _ e) none-same)
-      (cond-elim SameIn (eqb k 2) _ Faulty (checked-same _ e) none-same)
+  from-bits k b c y e =
+      cond-elim SameIn (eqb k 1) _ _ (cond-elim SameIn (eqb c 0) _ Faulty (checked-bits _ e) none-same)
+      (cond-elim SameIn (eqb k 2) _ Faulty (checked-bits _ e) none-same)
 
-  term-same : (s : List ℕ) → SameIn (termBefore lo s)
+  term-bits : (s : List ℕ) → SameIn (termBefore lo s)
   unfolding termBefore
-  term-same s =
+  term-bits s =
       cond-elim SameIn (eqb (length s) 19) _ Faulty
-      (cond-elim SameIn (eqb (getD s 2 0) 0) _ Faulty (from-same (getD s 0 0) (bareBefore s) (le64 s 3) (le64 s 11) refl) none-same) none-same
+      (cond-elim SameIn (eqb (getD s 2 0) 0) _ Faulty (from-bits (getD s 0 0) (bareBefore s) (le64 s 3) (le64 s 11) refl) none-same) none-same
 
   pub bits-before : (s : List ℕ) (i : ℕ) → Same (bondBefore lo s i)
   unfolding bondBefore
-  bits-before s i = cond-elim Same (ltb i (entryCountBefore lo s)) _ noBond (term-same (termAt s (entryCountBefore lo s) i)) none-same
+  bits-before s i = cond-elim Same (ltb i (entryCountBefore lo s)) _ noBond (term-bits (termAt s (entryCountBefore lo s) i)) none-same

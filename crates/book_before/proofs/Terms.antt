@@ -11,7 +11,7 @@ use lib.Dec.{eqb}
 use lib.ListN.{length, getD}
 use lib.Ieee.{Float, nan, inf, fin, le, up, down}
 use lib.Ieee.Fits.{down-pos}
-use Rattle.lists.proofs.Cases.{byBool, and-left, and-right, and-both, and-three}
+use Rattle.lists.proofs.Cases.{byBool, and-true, and-left, and-right, and-both, and-three}
 use Rattle.endian.specs.Endian.{le64}
 use Rattle.pricer.specs.Price.{one}
 use Rattle.pricer.specs.Range.{zeroFloat, lowestYield, couponInRange, yieldInRange, periodsInRange, paymentsInRange, termsInRange, inRange}
@@ -104,17 +104,13 @@ terms-same : (t : Terms) → termsInRange t ≡ termsBefore lowestYield t
 terms-same (Zero y) = refl
 terms-same (Fixed c y) = refl
 
-with-true : (a : Bool) → a && true ≡ a
-with-true true = refl
-with-true false = refl
-
 checked-same : (b : Bond) → b .payments ≡ 2 → checked b ≡ checkedBefore lowestYield b
 unfolding checked checkedBefore inRange inRangeBefore
 checked-same b e =
     let p = periodsInRange (b .periods) in
     ap (λ (x : Bool). cond x (Valid b) Faulty)
     (ap (λ (k : ℕ). p && paymentsInRange k && termsInRange (b .terms)) e
-    ∙ ap (λ (x : Bool). x && termsInRange (b .terms)) (with-true p)
+    ∙ ap (λ (x : Bool). x && termsInRange (b .terms)) (and-true p)
     ∙ ap (λ (x : Bool). p && x) (terms-same (b .terms)))
 
 from-same : (k : ℕ) (b : Bond) (c y : ℕ) → b .payments ≡ 2 → termFrom k b c y ≡ termFromBefore lowestYield k b c y

@@ -22,7 +22,7 @@ use Rattle.pricer.proofs.Rounding.{not-zero, minus, sum-is, Within, Exa
 -- ---- quotients
 
 -- a divisor of j or more
-abbrev pub AtLeast : ℕ → Float → Type 0
+abbrev AtLeast : ℕ → Float → Type 0
 AtLeast j nan = ⊥
 AtLeast j (inf s) = ⊥
 AtLeast j (fin true n d) = ⊥
@@ -55,11 +55,11 @@ module _ (a b c j : ℕ) (P : 0 < c * j) (A : Exact a (c * j)) (B : Exact b (c *
 -- ---- the rates of a period
 
 -- the payments of a year are 1 or more
-pub payments-from : (k : ℕ) → paymentsInRange k ≡ true → AtLeast 1 (yearly k)
+payments-from : (k : ℕ) → paymentsInRange k ≡ true → AtLeast 1 (yearly k)
 unfolding ofInt round
 payments-from = by-payments (λ (k : ℕ). AtLeast 1 (yearly k)) (lit< tt, lit≤ tt) (lit< tt, lit≤ tt) (lit< tt, lit≤ tt) (lit< tt, lit≤ tt)
 
-pub two-from : AtLeast 2 (yearly 2)
+two-from : AtLeast 2 (yearly 2)
 unfolding ofInt round
 two-from = (lit< tt, lit≤ tt)
 
@@ -78,7 +78,7 @@ coupon-part k K c h =
 -- ---- the divisor
 
 -- from lo to hi
-abbrev pub Spans : Float → Float → Float → Type 0
+abbrev Spans : Float → Float → Float → Type 0
 Spans lo hi d = T (le lo d) × T (le d hi)
 
 -- without the factors 1
