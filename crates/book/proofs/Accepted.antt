@@ -6,11 +6,11 @@ use mathlib.Core.Logic.{_≢_, _⊎_, ⊎-elim}
 use mathlib.Core.List.{List, []}
 use Prim.Native.Nat.{ℕ, suc, _+_, _*_, _≤_, _<_}
 use native.Mathlib.Omega.{arith}
-use borrow.Author.Tests.{ltb-false, leb-true, eqb-true, eqb-false, eq-eqb, ne-eqb, lt-ltb, le-ltb, not-false}
+use borrow.Author.Tests.{ltb-false, leb-true, le-leb, eqb-true, eq-eqb, ne-eqb, lt-ltb, le-ltb, not-false}
 use lib.Dec.{leb, ltb, eqb}
-use lib.ListN.{length}
+use lib.ListN.{length, getD}
 use Rattle.lists.specs.Scan.{all}
-use Rattle.lists.proofs.Cases.{byBool, byEq, and-left, and-right}
+use Rattle.lists.proofs.Cases.{byEq, and-left, and-right}
 use Rattle.endian.specs.Endian.{le16}
 use Rattle.lists.proofs.Scans.{all-at}
 use Rattle.lists.proofs.Lowest.{lowest-none}
@@ -20,12 +20,12 @@ use Rattle.book_term.specs.Term.{termOf, termNumber}
 use Rattle.book_term.proofs.Ranged.{read-in-range}
 use Rattle.book_term.specs.declared.Reading.{Reading}
 use Rattle.book_term.specs.declared.Reading.the-variants.{Faulty, Valid}
-use Rattle.book.specs.Book.{rawMachineCount, rawEntryCount, sizesInRange, identifierAt, termAt, repeated, faultAt, lowestFaulty, lowestFault}
+use Rattle.book.specs.Book.{rawMachineCount, rawEntryCount, sizesInRange, identifierAt, termAt, repeated, faultAt, lowestFault}
 use Rattle.book.specs.Book.{bookVerdict}
 use Rattle.pricer.specs.Bonds.{noBond}
-use Rattle.book.specs.Parts.{IsSize, sizeAt, entryCount, identifierOf, identifierNumber, bondIn, termBondAt, bondOf}
-use Rattle.book.proofs.Rests.{same-itself}
-use Rattle.book.proofs.Faults.{differs}
+use Rattle.book.specs.Parts.{IsSize, sizeAt, machineCount, entryCount, identifierOf, identifierNumber, bondIn, termBondAt, bondOf}
+use Rattle.book.proofs.SameBytes.{same-itself}
+use Rattle.book.proofs.Faults.{other, lowest-is}
 
 -- ---- the sizes
 
@@ -44,12 +44,16 @@ sizes m n e =
       entry-count-most = leb-true n 64 (and-right (leb 2 m && leb m 16) (leb n 64) e);
     }
 
+-- with another entry count
+pub resized : {m : ℕ} {n : ℕ} → Sizes m n → (k : ℕ) → k ≤ 64 → Sizes m k
+resized z k h = record { some = z .some; machine-count-most = z .machine-count-most; entry-count-most = h }
+
 -- ---- a choice that is 0 did not take an arm that is not
 
 pub no : (n : ℕ) → suc n ≡ 0 → ⊥
 no n e = omega arith
 
-past : (t : Bool) (n a : ℕ) → cond t (suc n) a ≡ 0 → (t ≡ false) × (a ≡ 0)
+pub past : (t : Bool) (n a : ℕ) → cond t (suc n) a ≡ 0 → (t ≡ false) × (a ≡ 0)
 past true n a e = absurd (no n e)
 past false n a e = (refl, e)
 
@@ -61,13 +65,16 @@ past-sizes a b c x e =
     let r = past (not c) 2 _ (q .1) in
     (p .0, not-false b (q .0), not-false c (r .0), r .1)
 
+-- a number v of its own, then x
+pub past-own : (v x : ℕ) → cond (not (eqb v 0)) v x ≡ 0 → (v ≡ 0) × (x ≡ 0)
+past-own v x e = byEq v 0 (λ z. (z, (rw (eq-eqb v 0 z) at e))) (λ d. let z : v ≡ 0 = rw (ne-eqb v 0 d) at e in absurd (d z))
+
 -- of an entry: the identifier's v, 6, then x
 pub past-identifier : (v : ℕ) (t : Bool) (x : ℕ) → cond (not (eqb v 0)) v (cond t 6 x) ≡ 0 → (v ≡ 0) × (t ≡ false) × (x ≡ 0)
 past-identifier v t x e =
-    let a : eqb v 0 ≡ true = byBool (eqb v 0) (λ b. b) (λ b. let z : v ≡ 0 = rw b at e in absurd (eqb-false v 0 b z)) in
-    let f : cond t 6 x ≡ 0 = rw a at e in
-    let p = past t 5 x f in
-    (eqb-true v 0 a, p .0, p .1)
+    let p = past-own v _ e in
+    let q = past t 5 x (p .1) in
+    (p .0, q .0, q .1)
 
 -- ---- the book
 
@@ -77,10 +84,6 @@ pub record Accepted (s : List ℕ) : Type 0 where
   pub whole : length s ≡ 4 + 31 * rawEntryCount s
   pub faultless : (i : ℕ) → i < rawEntryCount s → faultAt s (rawEntryCount s) i ≡ 0
 
-no-fault : (s : List ℕ) (n : ℕ) → lowestFault s n ≡ 0 → (i : ℕ) → i < n → faultAt s n i ≡ 0
-unfolding lowestFault lowestFaulty
-no-fault s n e = lowest-none (faultAt s n) n e
-
 pub accepted : (s : List ℕ) → bookVerdict s ≡ 0 → Accepted s
 unfolding bookVerdict
 accepted s e =
@@ -89,8 +92,21 @@ accepted s e =
       four = ltb-false _ _ (p .0);
       sizes-in-range = sizes _ _ (p .1);
       whole = eqb-true _ _ (p .2);
-      faultless = no-fault s (rawEntryCount s) (p .3);
+      faultless = lowest-none (faultAt s (rawEntryCount s)) (rawEntryCount s) (sym (lowest-is s (rawEntryCount s)) ∙ p .3);
     }
+
+-- past the sizes and the length, a book's number is that of its lowest faulty entry
+pub verdict-lowest : (s : List ℕ) → Sizes (rawMachineCount s) (rawEntryCount s) → length s ≡ 4 + 31 * rawEntryCount s
+    → bookVerdict s ≡ lowestFault s (rawEntryCount s)
+unfolding bookVerdict sizesInRange
+verdict-lowest s z w =
+    rw (
+      le-ltb (length s) 4 (omega arith),
+      le-leb 2 (rawMachineCount s) (z .some),
+      le-leb (rawMachineCount s) 16 (z .machine-count-most),
+      le-leb (rawEntryCount s) 64 (z .entry-count-most),
+      eq-eqb (length s) (4 + 31 * rawEntryCount s) w,
+    )
 
 -- ---- an entry without fault
 
@@ -108,13 +124,14 @@ valid (Valid b) e = refl
 entry-of : (s : List ℕ) (n i : ℕ) → faultAt s n i ≡ 0 → Entry s n i
 unfolding faultAt repeated termBondAt
 entry-of s n i e =
-    let p = past-identifier (verdictOf (identifierAt s i)) (not (all (differs s i) i)) _ e in
+    let differs : ℕ → Bool = other s (identifierAt s i) in
+    let p = past-identifier (verdictOf (identifierAt s i)) (not (all differs i)) _ e in
     let r : termOf (termAt s n i) ≡ Valid (bondIn (termOf (termAt s n i))) = valid (termOf (termAt s n i)) (p .2) in
     record {
       passes = p .0;
       new = λ k h q.
-          let d : differs s i k ≡ true = all-at (differs s i) i k (not-false _ (p .1)) h in
-          let w : differs s i k ≡ false = rw q (ap not (same-itself (identifierAt s i))) in
+          let d : differs k ≡ true = all-at differs i k (not-false _ (p .1)) h in
+          let w : differs k ≡ false = rw q (ap not (same-itself (identifierAt s i))) in
           true≢false (sym d ∙ w);
       read = r;
       in-range = read-in-range (termAt s n i) _ r;
@@ -138,6 +155,22 @@ pub has-entry : (s : List ℕ) (i : ℕ) → i < entryCount s → bookVerdict s 
 has-entry s i h =
     byEq (bookVerdict s) 0 (λ e. e) (λ e. absurd (omega (arith, refused-size s 2 e)))
 
+module _ (s : List ℕ) (e : bookVerdict s ≡ 0) where
+  pub counts : Sizes (machineCount s) (entryCount s)
+  counts = rw (accepted-size s 0 e, accepted-size s 2 e) (accepted s e .sizes-in-range)
+
+  pub whole-length : length s ≡ 4 + 31 * entryCount s
+  whole-length = rw (accepted-size s 2 e) (accepted s e .whole)
+
+  pub no-faults : (i : ℕ) → i < entryCount s → faultAt s (entryCount s) i ≡ 0
+  no-faults = rw (accepted-size s 2 e) (accepted s e .faultless)
+
+  -- the entry count stands in byte 2
+  pub count-byte : getD s 2 0 ≡ entryCount s
+  count-byte =
+      let n : entryCount s ≡ le16 s 2 = accepted-size s 2 e in
+      omega (arith, counts .entry-count-most)
+
 pub record Counted (s : List ℕ) (n : ℕ) : Type 0 where
   pub whole : length s ≡ 4 + 31 * n
   pub most : n < 65
@@ -145,9 +178,7 @@ pub record Counted (s : List ℕ) (n : ℕ) : Type 0 where
 pub counted : (s : List ℕ) (i : ℕ) → i < entryCount s → Counted s (entryCount s)
 counted s i h =
     let e = has-entry s i h in
-    let a = accepted s e in
-    let n = accepted-size s 2 e in
-    record { whole = omega (arith, a .whole, n); most = omega (arith, a .sizes-in-range .entry-count-most, n) }
+    record { whole = whole-length s e; most = omega (arith, counts s e .entry-count-most) }
 
 -- a size fits a byte
 pub size-small : (s : List ℕ) (at : ℕ) → bookVerdict s ≡ 0 → IsSize at → le16 s at < 256

@@ -1,6 +1,6 @@
 -- Entries in the code's words: the parts of the book that it takes, what comparing two of them says, and the cases of an entry's fault.
 -- Assumes nothing.
-use mathlib.Core.Path.{_≡_}
+use mathlib.Core.Path.{_≡_, refl, sym, _∙_}
 use mathlib.Core.Logic.{_≢_}
 use mathlib.Core.Bool.{Bool, true, false, not}
 use mathlib.Core.List.{List}
@@ -10,10 +10,11 @@ use borrow.Author.Tests.{eq-eqb, ne-eqb}
 use lib.ListN.{take, drop}
 use Rattle.lists.specs.Scan.{all, least}
 use Rattle.lists.proofs.Scans.{all-fail}
-use Rattle.lists.proofs.Lowest.{marked, lowest-first, lowest-zero}
+use Rattle.lists.proofs.Lowest.{marked, lowest, lowest-first, lowest-zero}
 use Rattle.isin.specs.Isin.{verdictOf}
 use Rattle.book_term.specs.Term.{termOf, termNumber}
 use Rattle.book.specs.Book.{identifierAt, termAt, sameBytes, repeated, faultAt, lowestFaulty, lowestFault}
+use Rattle.book.specs.Entry.{holds, entryFault}
 
 -- ---- the parts
 
@@ -38,48 +39,57 @@ pub is-term : (s : List ℕ) (n i : ℕ) → termPart s n i ≡ termAt s n i
 unfolding termAt
 is-term s n i = cut s (4 + 12 * n + 19 * i) 19
 
--- ---- an earlier entry with the same identifier
+-- ---- an entry with the same identifier
 
--- entry k has another identifier than entry i
-abbrev pub differs : List ℕ → ℕ → ℕ → Bool
-differs s i k = not (sameBytes (identifierAt s k) (identifierAt s i))
+-- entry k has another identifier than id
+abbrev pub other : List ℕ → List ℕ → ℕ → Bool
+other s id k = not (sameBytes (identifierAt s k) id)
 
-pub compared : (s : List ℕ) (i k : ℕ) (r : Bool) → r ≡ sameBytes (identifierPart s k) (identifierPart s i) → differs s i k ≡ not r
-compared s i k r e = rw (e, is-identifier s k, is-identifier s i)
+module _ (s id : List ℕ) where
+  pub compared : (k : ℕ) (part : List ℕ) (r : Bool) → part ≡ identifierAt s k → r ≡ sameBytes part id → other s id k ≡ not r
+  compared k part r p e = rw (e, p)
 
-pub found : (s : List ℕ) (i k : ℕ) → k < i → differs s i k ≡ false → true ≡ repeated s i
-unfolding repeated
-found s i k h e = rw (all-fail (differs s i) i k h e)
+  pub found : (n k : ℕ) → k < n → other s id k ≡ false → true ≡ holds s n id
+  unfolding holds
+  found n k h e = rw (all-fail (other s id) n k h e)
 
-pub missed : (s : List ℕ) (i : ℕ) → true ≡ all (differs s i) i → false ≡ repeated s i
-unfolding repeated
-missed s i e = rw (← e)
+  pub missed : (n : ℕ) → true ≡ all (other s id) n → false ≡ holds s n id
+  unfolding holds
+  missed n e = rw (← e)
 
 -- ---- the cases of an entry's fault
 
-module _ (s : List ℕ) (n i : ℕ) where
-  pub by-identifier : (verdictOf (identifierAt s i) ≡ 0 → ⊥) → faultAt s n i ≡ verdictOf (identifierAt s i)
-  unfolding faultAt
-  by-identifier h = rw (ne-eqb (verdictOf (identifierAt s i)) 0 h)
+module _ (s : List ℕ) (n : ℕ) (id term : List ℕ) where
+  pub by-identifier : (verdictOf id ≡ 0 → ⊥) → entryFault s n id term ≡ verdictOf id
+  unfolding entryFault
+  by-identifier h = rw (ne-eqb (verdictOf id) 0 h)
 
-  pub by-earlier : verdictOf (identifierAt s i) ≡ 0 → repeated s i ≡ true → faultAt s n i ≡ 6
-  unfolding faultAt
-  by-earlier h k = rw (eq-eqb (verdictOf (identifierAt s i)) 0 h, k)
+  pub by-earlier : verdictOf id ≡ 0 → holds s n id ≡ true → entryFault s n id term ≡ 6
+  unfolding entryFault
+  by-earlier h k = rw (eq-eqb (verdictOf id) 0 h, k)
 
-  pub by-term : verdictOf (identifierAt s i) ≡ 0 → repeated s i ≡ false → faultAt s n i ≡ termNumber (termOf (termAt s n i))
-  unfolding faultAt
-  by-term h k = rw (eq-eqb (verdictOf (identifierAt s i)) 0 h, k)
+  pub by-term : verdictOf id ≡ 0 → holds s n id ≡ false → entryFault s n id term ≡ termNumber (termOf term)
+  unfolding entryFault
+  by-term h k = rw (eq-eqb (verdictOf id) 0 h, k)
+
+-- that of an entry of the book
+pub fault-is : (s : List ℕ) (n i : ℕ) → faultAt s n i ≡ entryFault s i (identifierAt s i) (termAt s n i)
+unfolding faultAt repeated entryFault holds
+fault-is s n i = refl
 
 -- ---- the lowest faulty entry
 
 abbrev pub isFaulty : List ℕ → ℕ → ℕ → Bool
 isFaulty s n = marked (faultAt s n)
 
+-- in the words of the laws of lists
+pub lowest-is : (s : List ℕ) (n : ℕ) → lowestFault s n ≡ lowest (faultAt s n) n
+unfolding lowestFault lowestFaulty
+lowest-is s n = refl
+
 module _ (s : List ℕ) (n : ℕ) where
   pub first-fault : (i : ℕ) → i < n → least (isFaulty s n) i ≡ i → faultAt s n i ≢ 0 → faultAt s n i ≡ lowestFault s n
-  unfolding lowestFault lowestFaulty
-  first-fault = lowest-first (faultAt s n) n
+  first-fault i h e d = lowest-first (faultAt s n) n i h e d ∙ sym (lowest-is s n)
 
   pub no-fault : least (isFaulty s n) n ≡ n → 0 ≡ lowestFault s n
-  unfolding lowestFault lowestFaulty
-  no-fault = lowest-zero (faultAt s n) n
+  no-fault e = lowest-zero (faultAt s n) n e ∙ sym (lowest-is s n)

@@ -1,3 +1,4 @@
-pub mod Rests
+pub mod SameBytes
 pub mod Faults
 pub mod Accepted
+pub mod Entries

@@ -5,44 +5,59 @@ ghost use mathlib.Core.Path.{_≡_};
 ghost use mathlib.Core.List.{[]};
 ghost use Prim.Native.Nat.{_+_, _*_, _≤_, _<_};
 ghost use lib.ListN.{length};
-ghost use Rattle.book.specs.Book.{identifierAt, sameBytes, repeated, faultAt, lowestFault, sizesInRange, bookVerdict};
+ghost use Rattle.book.specs.Book.{identifierAt, sameBytes, faultAt, lowestFault, sizesInRange, bookVerdict};
+ghost use Rattle.book.specs.Entry.{holds, entryFault};
 ghost use Rattle.book.specs.Parts.{IsSize, sizeAt, bondIn, termBondAt, machineCount, entryCount, identifierOf, identifierNumber, bondOf};
 
-// Whether a and b hold the same bytes.
+// Whether a and b hold the same bytes, from the last byte on: identifiers that begin alike mostly differ near their end.
 fn equal(a: &[u8], b: &[u8]) -> bool
     ensures { λ r. ⌜ r ≡ sameBytes (now (a .entry)) (now (b .entry)) ⌝ }
 {
     if a.len() != b.len() {
         return false;
     }
-    let mut i = 0;
-    while i < a.len() {
+    let mut i = a.len();
+    while 0 < i {
+        i -= 1;
         if a[i] != b[i] {
             return false;
         }
-        i += 1;
     }
     true
 }
 
-// Whether an entry before i has the identifier of i.
-fn seen_before(s: &[u8], i: usize) -> bool
-    requires { ⌜ 16 + 12 * i ≤ length (now s) ⌝ }
-    requires { ⌜ i < 64 ⌝ }
-    ensures { λ r. ⌜ r ≡ repeated (now (s .entry)) i ⌝ }
+// Whether one of the first n entries has this identifier.
+fn holds(s: &[u8], n: usize, id: &[u8]) -> bool
+    requires { ⌜ 4 + 12 * n ≤ length (now s) ⌝ }
+    ensures { λ r. ⌜ r ≡ holds (now (s .entry)) n (now (id .entry)) ⌝ }
 {
-    let a = 4 + 12 * i;
-    let e = a + 12;
     let mut k = 0;
-    while k < i {
-        let b = 4 + 12 * k;
-        let f = b + 12;
-        if equal(&s[b..f], &s[a..e]) {
+    while k < n {
+        if equal(identifier_at(s, k), id) {
             return true;
         }
         k += 1;
     }
     false
+}
+
+// The number of the fault of an entry with this identifier and these terms, which comes after the first n of a book; or 0.
+pub fn entry_fault(s: &[u8], n: usize, id: &[u8], term: &[u8]) -> u8
+    requires { ⌜ 4 + 12 * n ≤ length (now s) ⌝ }
+    ensures { λ r. ⌜ r ≡ entryFault (now (s .entry)) n (now (id .entry)) (now (term .entry)) ⌝ }
+{
+    let v = isin::verdict(id);
+    if v != 0 {
+        return v;
+    }
+    if holds(s, n, id) {
+        return 6;
+    }
+    let t = book_term::read(term);
+    match t {
+        Reading::Faulty => 7,
+        Reading::Valid(_) => 0,
+    }
 }
 
 // The number of the fault of entry i of n, or 0.
@@ -51,22 +66,9 @@ fn fault(s: &[u8], n: usize, i: usize) -> u8
     requires { ⌜ (i < n) × (n < 65) ⌝ }
     ensures { λ r. ⌜ r ≡ faultAt (now (s .entry)) n i ⌝ }
 {
-    let a = 4 + 12 * i;
-    let e = a + 12;
-    let v = isin::verdict(&s[a..e]);
-    if v != 0 {
-        return v;
-    }
-    if seen_before(s, i) {
-        return 6;
-    }
     let b = 4 + 12 * n + 19 * i;
     let f = b + 19;
-    let t = book_term::read(&s[b..f]);
-    match t {
-        Reading::Faulty => 7,
-        Reading::Valid(_) => 0,
-    }
+    entry_fault(s, i, identifier_at(s, i), &s[b..f])
 }
 
 // The fault of the lowest faulty one of n entries, or 0.

@@ -6,12 +6,12 @@ use Prim.Native.Nat.{ℕ, zero, suc, _+_, _-_, _<_, _≤_}
 use native.Mathlib.Nat.{le-of-suc-le-suc, not-suc-le-zero}
 use native.Mathlib.Numerals.{add-one}
 use native.Mathlib.Omega.{arith}
-use borrow.Author.Tests.{ltb-true, ltb-false, eqb-true, leb-true, le-leb}
+use borrow.Author.Tests.{ltb-true, ltb-false, eqb-true, ne-eqb, leb-true, le-leb}
 use lib.ListN.{length, take, drop, getD, length-drop, drop-of-length-le}
 use lib.Seq.{drop-cons, getD-take, getD-drop, length-take-le}
 use lib.Dec.{leb, ltb, eqb}
 use Rattle.lists.proofs.Cases.{byBool, and-left, and-right}
-use Rattle.isin.specs.Isin.{valueOf, allIn, hasForm}
+use Rattle.isin.specs.Isin.{valueOf, allIn, hasForm, verdictOf}
 use Rattle.isin.specs.Values.{isLetter, isDigit, isAllowed}
 use Rattle.isin.proofs.Characters.{within, letter-value, digit-value, allowed-value}
 
@@ -67,6 +67,11 @@ part lo hi a n k s e l i h j =
     let g : getD (take n (drop a s)) (i - a) 0 ≡ getD s i 0 =
     getD-take n (drop a s) (i - a) 0 (omega arith) ∙ getD-drop a s (i - a) 0 ∙ ap (λ (m : ℕ). getD s m 0) x in
     rw g at (member lo hi k (take n (drop a s)) (i - a) e (omega arith))
+
+-- what has not twelve characters has another form
+pub not-twelve : (s : List ℕ) → (length s ≡ 12 → ⊥) → verdictOf s ≡ 4
+unfolding verdictOf hasForm
+not-twelve s h = rw (ne-eqb (length s) 12 h)
 
 -- it has twelve characters, and each is allowed
 pub record Formed (s : List ℕ) : Type 0 where

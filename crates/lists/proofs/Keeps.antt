@@ -1,4 +1,4 @@
--- A test of every index from the test of each; and what a loop keeps.
+-- A test of every index from the test of each, and from another that agrees with it; and what a loop keeps.
 -- Assumes nothing.
 use Prim.Native.Nat.{ℕ, zero, suc, _<_, _≤_}
 use mathlib.Core.Path.{_≡_, refl}
@@ -11,6 +11,11 @@ pub all-intro : (p : ℕ → Bool) (n : ℕ) → ((i : ℕ) → i < n → p i �
 unfolding all
 all-intro p zero f = refl
 all-intro p (suc n) f = rw (all-intro p n (λ i h. f i (omega arith)), f n (omega arith))
+
+pub all-same : (p q : ℕ → Bool) (n : ℕ) → ((i : ℕ) → i < n → p i ≡ q i) → all p n ≡ all q n
+unfolding all
+all-same p q zero f = refl
+all-same p q (suc n) f = rw (all-same p q n (λ i h. f i (omega arith)), f n (omega arith))
 
 -- A loop of n turns: what holds before turn j holds, of the next, after it; and what every turn keeps.
 module _ {A : Type 0} (f : ℕ → A → A) where

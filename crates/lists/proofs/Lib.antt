@@ -5,3 +5,4 @@ pub mod Keeps
 pub mod Count
 pub mod Chains
 pub mod Lowest
+pub mod Slices

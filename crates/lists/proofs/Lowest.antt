@@ -1,9 +1,10 @@
--- The value of f at the least index below n where it is not 0, or 0: what a loop finds; where it is 0, so is f at each index; a g that is f at each
--- index has the same one; and so has a g that differs from f only where f is v, unless that is v. Assumes nothing.
+-- The value of f at the least index below n where it is not 0, or 0: what a loop finds; where it is 0, so is f at each index; where f is 0 at each
+-- index but the last, it is that of the last; a g that is f at each index has the same one; and so has a g that differs from f only where f is v,
+-- unless that is v. Assumes nothing.
 use mathlib.Core.Path.{_≡_, refl, sym, ap, _∙_}
 use mathlib.Core.Logic.{_≢_}
 use mathlib.Core.Bool.{Bool, true, false, not, cond, true≢false}
-use Prim.Native.Nat.{ℕ, zero, suc, _≤_, _<_}
+use Prim.Native.Nat.{ℕ, zero, suc, _+_, _≤_, _<_}
 use native.Mathlib.Nat.{le-refl}
 use native.Mathlib.Omega.{arith}
 use borrow.Author.Tests.{ltb-true, ltb-false, eqb-true, ne-eqb, lt-ltb, le-ltb, not-false}
@@ -54,6 +55,21 @@ module _ (f : ℕ → ℕ) where
       let l : n ≤ k = ltb-false k n b in
       let g : marked i ≡ false = least-before marked n i (omega arith) in
       eqb-true (f i) 0 (not-false _ g))
+
+  -- f is 0 at each index below n
+  least-end : (n : ℕ) → ((i : ℕ) → i < n → f i ≡ 0) → least marked n ≡ n
+  unfolding least
+  least-end zero h = refl
+  least-end (suc n) h = rw (least-end n (λ i l. h i (omega arith)), le-ltb n n (le-refl n), h n (omega arith))
+
+  pub lowest-last : (n : ℕ) → ((i : ℕ) → i < n → f i ≡ 0) → lowest (n + 1) ≡ f n
+  lowest-last n h =
+      byEq (f n) 0
+      (λ z. sym (lowest-zero (n + 1) (least-end (n + 1) (λ i l. byEq i n (λ q. rw q z) (λ q. h i (omega arith))))) ∙ sym z)
+      (λ z. sym (lowest-first (n + 1) n (omega arith) (least-end n h) z))
+
+  pub lowest-all : (n : ℕ) → ((i : ℕ) → i < n → f i ≡ 0) → lowest n ≡ 0
+  lowest-all n h = sym (lowest-zero n (least-end n h))
 
 -- a g that agrees with f up to the least index
 lowest-upto : (f g : ℕ → ℕ) (n : ℕ) → ((i : ℕ) → i ≤ least (marked f) n → i < n → g i ≡ f i) → lowest g n ≡ lowest f n

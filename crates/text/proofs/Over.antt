@@ -1,12 +1,13 @@
--- Laws of a text written over a buffer: its length, one text after another, one more character. Assumes nothing.
+-- Laws of a text written over a buffer: what stands before it, one text after or before another, one more character. Assumes nothing.
 use Prim.Native.Nat.{ℕ, zero, suc, _+_, _*_, _≤_, _<_}
 use mathlib.Core.Path.{_≡_, sym, ap, _∙_}
 use mathlib.Core.List.{List, [], _∷_, _++_, append-assoc}
 use native.Mathlib.Nat.{suc-mul}
 use native.Mathlib.Omega.{arith}
 use native.Mathlib.Numerals.{add-one}
-use lib.ListN.{length, take, drop, set, getD, length-append}
-use lib.Seq.{paste, paste-zero, take-length, length-take-le, take-at, drop-at, drop-drop, take-set-le, set-split, append-snoc, paste-suc}
+use lib.ListN.{length, take, drop, set, getD, length-append, List·getD-append}
+use lib.Seq.{paste, paste-zero, take-length, length-take-le, take-at, take-take, take-suc, take-append-le, drop-at, drop-drop}
+use lib.Seq.{take-set-le, set-at, set-split, append-snoc, paste-suc, getD-take}
 use Rattle.text.specs.Text.{over, Written, joined}
 
 -- a copy of all of s
@@ -55,6 +56,46 @@ module _ (d : List ℕ) (at : ℕ) (a : List ℕ) where
       ∙ sym (append-snoc (take at d ++ a) x (drop (suc n) d))
       ∙ ap (λ (y : List ℕ). y ++ drop (suc n) d) (append-assoc (take at d) a (x ∷ []))
       ∙ ap (λ (k : ℕ). take at d ++ (a ++ (x ∷ [])) ++ drop k d) m
+
+-- what stands before the text
+pub over-before : (d : List ℕ) (at : ℕ) (w : List ℕ) (i : ℕ) → at ≤ length d → i < at → getD (over d at w) i 0 ≡ getD d i 0
+unfolding over
+over-before d at w i h k =
+    let l : length (take at d) ≡ at = length-take-le at d h in
+    rw (append-assoc (take at d) w (drop (at + length w) d))
+    (List·getD-append (take at d) (w ++ drop (at + length w) d) 0 i (omega arith) ∙ getD-take at d i 0 k)
+
+-- one character more, in front
+pub over-front : (d : List ℕ) (at : ℕ) (w : List ℕ) (x : ℕ) → at < length d → set (over d (suc at) w) at x ≡ over d at (x ∷ w)
+unfolding over
+over-front d at w x h =
+    let r : List ℕ = drop (suc at + length w) d in
+    let y : ℕ = getD d at 0 in
+    let l : length (take at d) ≡ at = length-take-le at d (omega arith) in
+    let m : suc at + length w ≡ at + suc (length w) = omega arith in
+    let a : (take (suc at) d ++ w) ++ r ≡ take at d ++ (y ∷ (w ++ r)) = rw (take-suc d at 0 h) (simp append-assoc) in
+    ap (λ (z : List ℕ). set z at x) a
+    ∙ set-at (take at d) y (w ++ r) x at l
+    ∙ sym (append-assoc (take at d) (x ∷ w) r)
+    ∙ ap (λ (k : ℕ). (take at d ++ (x ∷ w)) ++ drop k d) m
+
+-- one text before another
+pub over-below : (d : List ℕ) (at : ℕ) (w p : List ℕ) → at + length w ≤ length d → over (over d (at + length w) p) at w ≡ over d at (w ++ p)
+unfolding over
+over-below d at w p h =
+    let b : ℕ = at + length w in
+    let r : List ℕ = drop (b + length p) d in
+    let l : length (take b d) ≡ b = length-take-le b d h in
+    let n : length (w ++ p) ≡ length w + length p = length-append w p in
+    let m : b + length p ≡ at + length (w ++ p) = omega arith in
+    let k : at ≤ b = omega arith in
+    let x : (take b d ++ p) ++ r ≡ take b d ++ (p ++ r) = append-assoc (take b d) p r in
+    let t : take at (take b d ++ (p ++ r)) ≡ take at d = take-append-le at (take b d) (p ++ r) (omega arith) ∙ take-take at b d k in
+    let u : drop b (take b d ++ (p ++ r)) ≡ p ++ r = drop-at (take b d) (p ++ r) b l in
+    rw (x, t, u)
+    (sym (append-assoc (take at d ++ w) p r)
+    ∙ ap (λ (y : List ℕ). y ++ r) (append-assoc (take at d) w p)
+    ∙ ap (λ (j : ℕ). (take at d ++ (w ++ p)) ++ drop j d) m)
 
 -- ---- a copy, byte by byte
 
