@@ -1,5 +1,5 @@
-/* Document 01's listing through the C interface: opens the book, gives the snapshot one event after another, and prints what is refused,
- * then the page of the same book and events in one call. Exit status 1 where something is not as the listing says. */
+/* Document 01's listing through the C interface: builds the book entry by entry, opens it, gives the snapshot one event after another, and prints
+ * what is refused, then the page of the same book and events in one call. Exit status 1 where something is not as the listing says. */
 #include <stdio.h>
 #include <string.h>
 
@@ -26,6 +26,18 @@ static const char PAGE[] =
 
 static uint8_t table[RAKHVIDE_TABLE];
 static uint8_t page[RAKHVIDE_PAGE];
+
+static int one_entry_after_another(void)
+{
+    /* from the book of no entry; a third one has no room in the buffer */
+    uint8_t book[sizeof BOOK] = {2, 0, 0, 0};
+    for (size_t i = 0; i < 2; i++)
+        if (rakhvide_add(book, sizeof book, 4 + 31 * i, BOOK + 4 + 12 * i, 12, BOOK + 28 + 19 * i, 19) != 0)
+            return 1;
+    uint8_t number = rakhvide_add(book, sizeof book, sizeof book, (const uint8_t *)"US0378331005", 12, BOOK + 28, 19);
+    printf("entry 3 refused %u\n", number);
+    return number != 23 || memcmp(book, BOOK, sizeof book) != 0;
+}
 
 static int one_event_after_another(void)
 {
@@ -62,7 +74,7 @@ static int one_price(void)
 
 int main(void)
 {
-    int faults = one_event_after_another() + whole_page() + one_price();
+    int faults = one_entry_after_another() + one_event_after_another() + whole_page() + one_price();
     faults += rakhvide_identifier((const uint8_t *)"US0378331005", 12) != 0;
     faults += rakhvide_identifier((const uint8_t *)"ZZ0000000017", 12) != 5;
     faults += rakhvide_book(BOOK, sizeof BOOK - 1) != 3;

@@ -32,6 +32,19 @@ uint8_t rakhvide_identifier(const uint8_t *identifier, size_t length);
 /* A book: 0, or the number of its refusal, 1 to 7. */
 uint8_t rakhvide_book(const uint8_t *book, size_t length);
 
+/* Adds an entry to the book that is the first count bytes of the buffer. Its number, from top to bottom:
+ *   3        count is past the buffer's end, whatever else is wrong;
+ *   1 to 7   the book's own;
+ *   2        the book has 64 entries;
+ *   4, 5, 6  the identifier's form (another length than 12 too), its check digit, equal to one of the book;
+ *   7        the terms are outside the rules (another length than 19 too);
+ *   23       the buffer is shorter than the grown book, count + 31 bytes;
+ *   0        the first count + 31 bytes of the buffer are the book with the entry last, its terms as they were given, and the bytes after
+ *            them are as they were.
+ * To build a book, begin with its empty one, 4 bytes: the machine count, and 0 entries. Neither identifier nor terms may lie in the buffer. */
+uint8_t rakhvide_add(uint8_t *buffer, size_t buffer_length, size_t count, const uint8_t *identifier, size_t identifier_length,
+                     const uint8_t *terms, size_t terms_length);
+
 /* A term of the book, 19 bytes: 0, and *bits are the 64 bits of its bond's price; or 7, and *bits stay (they are read, and written back).
  * Its third byte is the payments per year: 1, 2, 4 or 12, and 0 reads as 2; any other is 7. */
 uint8_t rakhvide_term(const uint8_t *term, size_t length, uint64_t *bits);

@@ -1,7 +1,8 @@
 #!/usr/bin/python3
-"""A book as a CSV file, and as the book.bin that the program reads.
+"""A book as a CSV file, and as the book.bin that the program reads; a bond added to a book.
 
     python3 tools/book.py make BOOK.csv book.bin [--machines N] [--anyway]
+    python3 tools/book.py add book.bin ROW
     python3 tools/book.py show book.bin
 
 It needs Python 3.10 or later, and its standard library only.
@@ -27,6 +28,12 @@ say: a kind is then a number from 0 to 255 too, so are the payments, and an iden
 A rate that the rules accept may still be in the other unit. make writes the book and warns of a coupon above 0 and below 0.25,
 which may be meant as a fraction, and of a yield below -0.01 or above 0.5, which may be meant in percent. It warns of a book
 without bonds too.
+
+add puts one bond at the end of a book, which keeps its machine count and its other bonds. ROW is a row of the CSV as one word of
+the command: five cells, or six with the payments after the periods, as in 'US0378331005,fixed,20,4.5,0.0425'. Its cells are
+read, refused and warned of as those of make; rows are counted as show prints them, so that the new one is the last. To a book
+that is refused, or has 64 bonds, nothing is added, whatever the row says. The book to begin with is what make makes of a CSV
+that ends with its header.
 
 show prints the CSV of a book, from which make makes the same bytes again where the book is accepted; the column of payments is
 there where a bond states them. A refused book may have bytes that a CSV does not hold, as an identifier that is no text.
@@ -63,13 +70,13 @@ T = typing.TypeVar("T")
 # Reading the CSV.
 
 
-def read_csv(text: str) -> Rows:
+def read_csv(text: str, what: str = "a CSV file") -> Rows:
     """The rows that have a cell which is not empty."""
     reader = csv.reader(io.StringIO(text, newline=""), strict=True)
     try:
         rows = list(enumerate(reader, 1))
     except csv.Error as fault:
-        raise desk.Stop(f"not a CSV file: line {reader.line_num}: {fault}") from None
+        raise desk.Stop(f"not {what}: line {reader.line_num}: {fault}") from None
     return [(number, row) for number, row in rows if any(cell.strip() for cell in row)]
 
 
@@ -158,7 +165,8 @@ class Row:
         periods = self.read("periods", whole, "is not a whole number", 1)
         coupon = 0.0 if bare and kind == books.ZERO else self.read_rate("coupon")
         payments = self.read_payments(anyway)
-        self.entry = Entry(self.cells["identifier"].encode("utf-8"), kind, periods, payments, coupon, self.read_rate("yield"))
+        identifier = self.cells["identifier"].encode("utf-8", "surrogateescape")  # a word of a command may have bytes that are no UTF-8
+        self.entry = Entry(identifier, kind, periods, payments, coupon, self.read_rate("yield"))
 
     def read(self, column: str, meaning: collections.abc.Callable[[str], T], fault: str, accepted: T) -> T:
         text = self.cells[column]
@@ -232,13 +240,27 @@ def plain(text: str) -> str:
 def read_rows(columns: list[str], rows: Rows, anyway: bool) -> tuple[list[Row], list[Fault]]:
     """The rows that have the header's length, and the faults of the others and of cells without a meaning."""
     read = [Row(number, dict(zip(columns, row)), anyway) for number, row in rows if len(row) == len(columns)]
-    found = [Fault(None, number, None, length_text(row, len(columns))) for number, row in rows if len(row) != len(columns)]
+    expected = f"the header has {len(columns)}"
+    found = [Fault(None, number, None, length_text(row, len(columns), expected)) for number, row in rows if len(row) != len(columns)]
     return read, found + [fault for row in read for fault in row.faults]
 
 
-def length_text(row: list[str], length: int) -> str:
+def length_text(row: list[str], length: int, expected: str) -> str:
     more = f"; {POINT}" if len(row) > length else ""
-    return parted_otherwise(row) or f"{desk.plural(len(row), 'cell')}, and the header has {length}{more}"
+    return parted_otherwise(row) or f"{desk.plural(len(row), 'cell')}, and {expected}{more}"
+
+
+def read_row(text: str, number: int) -> Row:
+    """The one row of a text without a header, by its cells with the payments or without."""
+    rows = read_csv(text, "a row of CSV")
+    if len(rows) != 1:
+        raise desk.Stop(f"{desk.plural(len(rows), 'row')}, and one is added at a time")
+    columns = COLUMNS if len(rows[0][1]) > len(NEEDED) else NEEDED
+    cells = without_end(rows[0][1], columns)
+    if len(cells) != len(columns):
+        expected = f"a row has {len(NEEDED)}, or {len(COLUMNS)} with payments after periods"
+        refuse([Fault(None, number, None, length_text(cells, len(COLUMNS), expected))])
+    return Row(number, dict(zip(columns, cells)), False)
 
 
 # Faults as messages.
@@ -290,6 +312,18 @@ def make(text: str) -> bytes:
     return Sheet(text).book()[0]
 
 
+def add(book: bytes, text: str) -> tuple[bytes, list[Fault]]:
+    """The bytes of an accepted book with a row's bond last, and the doubts about its rates."""
+    old = books.stated_in(book)
+    refuse(list(books.size_faults(book[0], len(old) + 1)))
+    row = read_row(text, books.SHOWN_ROWS[len(old)])
+    refuse([*row.faults, *books.entry_faults([*old, row.stated()])])
+    term = books.TERM.pack(*row.entry[1:])
+    number, grown = books.added(book + bytes(books.ENTRY_BYTES), len(book), row.entry.identifier, term)
+    assert number == 0  # by the two lists of faults
+    return grown, list(row.doubts())
+
+
 def show(book: bytes) -> str:
     """The CSV of a book without shape_fault."""
     machines, entries = books.parts(book)
@@ -330,9 +364,23 @@ def command_make(args: argparse.Namespace) -> None:
     unstated = args.machines is None and sheet.machines is None
     warnings = [f"no machine count is stated: {MACHINES} machines are taken"] if unstated else []
     warnings += [] if sheet.rows else ["no bonds"]
-    desk.warn(desk.listed([f"warning: {text}" for text in [*warnings, *map(told, doubts)]], "warning"))
+    warn_of([*warnings, *map(told, doubts)])
     if books.number_of(data) != 0:
         desk.warn(f"{args.book} is a faulty book: refused {books.number_of(data)}")
+
+
+def warn_of(texts: list[str]) -> None:
+    desk.warn(desk.listed([f"warning: {text}" for text in texts], "warning"))
+
+
+def command_add(args: argparse.Namespace) -> None:
+    book = desk.read_bytes(args.book, books.MOST_BYTES)
+    with desk.making(args.book):
+        for fault in books.faults(book):  # the first has the book's number; show names them all
+            raise desk.Stop(f"{args.book} is a faulty book: {told(fault)}", desk.REFUSED)
+        data, doubts = add(book, args.row)
+    desk.write_bytes(args.book, data, [])
+    warn_of(list(map(told, doubts)))
 
 
 def command_show(args: argparse.Namespace) -> None:
@@ -353,13 +401,17 @@ def whole_number(text: str) -> int:
 
 def main() -> int:
     parser = desk.Parser(description=__doc__)
-    commands = parser.add_subparsers(required=True, metavar="make|show")
+    commands = parser.add_subparsers(required=True, metavar="make|add|show")
     making = commands.add_parser("make", help="make book.bin from a CSV file", description=parser.description)
     making.add_argument("csv", metavar="BOOK.csv", type=desk.stated_path)
     making.add_argument("book", metavar="book.bin", type=desk.stated_path)
     making.add_argument("--machines", type=whole_number, metavar="N", help="machine count, 2 to 16")
     making.add_argument("--anyway", action="store_true", help="write a faulty book too")
     making.set_defaults(command=command_make)
+    adding = commands.add_parser("add", help="add one bond to book.bin", description=parser.description)
+    adding.add_argument("book", metavar="book.bin", type=desk.stated_path)
+    adding.add_argument("row", metavar="ROW")
+    adding.set_defaults(command=command_add)
     showing = commands.add_parser("show", help="print a book as CSV", description=parser.description)
     showing.add_argument("book", metavar="book.bin", type=desk.stated_path)
     showing.set_defaults(command=command_show)

@@ -1,4 +1,4 @@
-"""The bytes of a book, and the rules of documents 01 and 02 for them. For the desk's tools and make_sample.py.
+"""The bytes of a book, the rules of documents 01 and 02 for them, and adding an entry. For the desk's tools and make_sample.py.
 
 It is not run by itself, and needs Python's standard library only. This is the one place where they read or write the bytes of
 a book. make_book_cases.py has functions of its own, so that what it decides is a test of these (test_desk.py).
@@ -16,7 +16,9 @@ ZERO, FIXED = 1, 2  # the kinds
 MOST_ENTRIES = 64
 SIZES = struct.Struct("<HH")  # machine count, entry count
 TERM = struct.Struct("<BBBdd")  # kind, periods, payments per year, coupon, yield
-MOST_BYTES = 4 + 31 * MOST_ENTRIES
+ENTRY_BYTES = 12 + TERM.size
+MOST_BYTES = SIZES.size + ENTRY_BYTES * MOST_ENTRIES
+NO_ROOM = 23  # "buffer shorter than the grown book" (document 02, 2.2)
 MOST_SIZE, MOST_BYTE = 0xFFFF, 0xFF  # that there is a place for
 LOWEST_YIELD, HIGHEST_YIELD = -0.5, 1.0  # "A yield now lies from -0.5 to 1, ends included" (document 02, 2.1)
 A_YEAR = {0: 2, 1: 1, 2: 2, 4: 4, 12: 12}  # "the payments per year: 1, 2, 4 or 12, and 0 reads as 2" (document 02, 2.3)
@@ -211,7 +213,12 @@ def faults(book: bytes) -> collections.abc.Iterator[Fault]:
     if shape:
         yield shape
     else:
-        yield from entry_faults([Stated(row, entry, texts_of(entry)) for row, entry in zip(SHOWN_ROWS, parts(book)[1])])
+        yield from entry_faults(stated_in(book))
+
+
+def stated_in(book: bytes) -> list[Stated]:
+    """The entries of a book without shape_fault, with the rows that book.py shows them in."""
+    return [Stated(row, entry, texts_of(entry)) for row, entry in zip(SHOWN_ROWS, parts(book)[1])]
 
 
 def number_of(book: bytes) -> int:
@@ -234,3 +241,44 @@ def book_of(machines: int, entries: list[Entry]) -> bytes:
     """The book of these entries; an identifier is filled with spaces or cut to 12 bytes."""
     names = b"".join(entry.identifier.ljust(12)[:12] for entry in entries)
     return SIZES.pack(machines, len(entries)) + names + b"".join(TERM.pack(*entry[1:]) for entry in entries)
+
+
+# "Adding an entry to a book" (document 02, 2.2).
+
+
+def added(buffer: bytes, count: int, identifier: bytes, term: bytes) -> tuple[int, bytes]:
+    """The number of the writer, and the buffer after it, whose first count bytes are a book. Where the number is not 0 it is as it was."""
+    number = adding_number(buffer, count, identifier, term)
+    if number:
+        return number, buffer
+    machines, n = SIZES.unpack_from(buffer)
+    names = SIZES.size + 12 * n  # where the old identifiers end and the old terms begin
+    grown = SIZES.pack(machines, n + 1) + buffer[SIZES.size:names] + identifier + buffer[names:count] + term
+    return 0, grown + buffer[len(grown):]
+
+
+def adding_number(buffer: bytes, count: int, identifier: bytes, term: bytes) -> int:
+    """By the stated count, which "past the buffer's end is refused 3 before all else", then the book, the entry, and last the room."""
+    if count > len(buffer):
+        return 3
+    number = number_of(buffer[:count])
+    if number:
+        return number
+    entries = parts(buffer[:count])[1]
+    if len(entries) == MOST_ENTRIES:
+        return 2
+    no_room = NO_ROOM if len(buffer) - count < ENTRY_BYTES else 0
+    return new_entry_number(entries, identifier, term) or no_room
+
+
+def new_entry_number(entries: list[Entry], identifier: bytes, term: bytes) -> int:
+    """As entry_faults has it; besides, "an identifier not of 12 bytes is refused 4, terms not of 19 bytes 7"."""
+    rows = {entry.identifier: row for row, entry in zip(SHOWN_ROWS, entries)}
+    row = SHOWN_ROWS[len(entries)]
+    fault = identifier_fault(identifier, {identifier: row, **rows}, row)
+    if fault:
+        return fault[0]
+    if len(term) != TERM.size:
+        return 7
+    entry = Entry(identifier, *TERM.unpack(term))
+    return 7 if any(term_faults(entry, texts_of(entry))) else 0

@@ -1,7 +1,6 @@
-#!/usr/bin/python3
-"""Writes the books that the program test_book is run on, and what it must print.
+"""Writes the books that the program test_book is run on, and tells what it must print of them.
 
-To run, at the root of the repository: /usr/bin/python3 tools/make_book_cases.py
+make_writer_cases.py runs it, adds the calls of the writer, and writes all that the program must print.
 It needs Python's standard library only (last run with Python 3.11).
 
 The functions of the first part implement document 01's "The book", "The identifier" and "The price", and the rows Book and Lowest faulty
@@ -464,7 +463,8 @@ def write_file(file, cases):
     return lines + [f"books: {len(texts)}", f"identifiers: {identifiers}", "differences: 0"]
 
 
-def main():
+def write_files():
+    """Writes the data files, and answers the lines that the program prints of them."""
     fail_unless(name(0) == b"ZZ0000000016" and name(1) == b"ZZ0000000024", "the identifiers of document 01")
     for bond, price in ((term(), 104.0), (term(1, 2, 0.0, 0.5), 64.0), (term(2, 1, 10.0, 0.5), 84.0)):
         fail_unless(price_of(bond) == price, "the prices of document 01")
@@ -477,9 +477,4 @@ def main():
     for file, cases in (("sizes.bin", sizes()), ("faults.bin", faults()), ("pairs.bin", pairs()), ("random.bin", most),
                         ("payments.bin", [*payments(), last, *random_payments()])):
         lines += write_file(file, list(cases))
-    (CRATE / "stdout").write_text("\n".join(lines) + "\n")
-    print("\n".join(lines))
-
-
-if __name__ == "__main__":
-    main()
+    return lines

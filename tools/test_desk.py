@@ -5,7 +5,7 @@
 
 It needs Python 3.10 or later and its standard library only, and writes to a temporary folder. Where mypy (Debian: mypy) is there it checks the
 annotations, where cargo is there it builds what bench/run load needs. What is expected is document 01's and 02's, or was decided by
-other programs: the books of test_book with their numbers, the prices of the sample close.
+other programs: the books of test_book with their numbers, its calls of the writer with theirs, the prices of the sample close.
 """
 import contextlib
 import io
@@ -35,6 +35,7 @@ import svg
 
 ROOT = pathlib.Path(__file__).resolve().parent.parent
 CRATES = ROOT / "crates"
+WRITER_FILES = sorted((CRATES / "test_book" / "data").glob("writer_*.bin"))
 SAMPLE = ROOT / "samples" / "close"
 FIRST = ROOT / "samples" / "first"
 PICTURES = {  # those of docs/, with their titles
@@ -99,12 +100,21 @@ def tool(name, *arguments, output=subprocess.PIPE, errors=subprocess.PIPE, befor
 
 def book_cases():
     """The books of test_book, each with its number."""
-    for file in sorted((CRATES / "test_book" / "data").glob("*.bin")):
+    for file in sorted(set((CRATES / "test_book" / "data").glob("*.bin")) - set(WRITER_FILES)):
         data, at = file.read_bytes(), 0
         while at < len(data):
             length, number, _, _, questions = struct.unpack_from("<HBBBB", data, at)
             yield number, data[at + 6:at + 6 + length]
             at += 6 + length + 25 * questions
+
+
+def writer_cases():
+    """The calls of the writer of test_book: the buffer, the count, the identifier and the terms; the number; and the buffer afterwards."""
+    for file in WRITER_FILES:
+        data = io.BytesIO(file.read_bytes())
+        while head := data.read(7):
+            length, number, count, identifier, terms = struct.unpack("<HBHBB", head)
+            yield (data.read(length), count, data.read(identifier), data.read(terms)), number, data.read(length)
 
 
 def names(count):
@@ -550,6 +560,171 @@ class Books(Folder):
         done = tool("book.py", "show", self.file("f.bin", data))
         self.assert_message(done, "refused 4")
         self.assertEqual(done.stdout.decode().splitlines()[3], '"\\x00\\x1b[31m\\x0d\\x0a\\x7f\\xff\\x09,",zero,2,,0.5')
+
+
+class Adding(Folder):
+    """Document 02, 2.2: the writer, and the command that adds a bond."""
+
+    def add(self, row):
+        return tool("book.py", "add", self.folder / "book.bin", row)
+
+    def assert_added(self, old, row, new):
+        """The new bytes are there, and nothing was said."""
+        path = self.file("book.bin", old)
+        done = self.add(row)
+        self.assertEqual((done.returncode, done.stdout, done.stderr, path.read_bytes()), (0, b"", b"", new), row)
+
+    def assert_refused(self, old, row, status, *lines):
+        """The old bytes are there, and the lines say why."""
+        path = self.file("book.bin", old)
+        done = self.add(row)
+        self.assert_lines(done, *lines, f"{path} is not written; the old one is left as it was")
+        self.assertEqual((done.returncode, path.read_bytes()), (status, old), row)
+
+    def test_numbers_and_buffers_are_those_of_writer_cases(self):
+        cases = list(writer_cases())
+        self.assertEqual(len(cases), 620)
+        for call, number, after in cases:
+            self.assertEqual(book_bytes.added(*call), (number, after))
+
+    def test_every_accepted_book_is_built_from_its_empty_one(self):
+        accepted = [data for number, data in book_cases() if number == 0]
+        for data in accepted:
+            n, rest = data[2], bytes(range(1, 10))
+            buffer = data[:2] + b"\0\0" + b"\xee" * (31 * n) + rest
+            for i in range(n):
+                term = data[4 + 12 * n + 19 * i:][:19]
+                number, buffer = book_bytes.added(buffer, 4 + 31 * i, data[4 + 12 * i:16 + 12 * i], term)
+                self.assertEqual(number, 0)
+            self.assertEqual(buffer, data + rest)
+
+    def test_a_count_near_the_largest(self):
+        """It is past the end of any buffer."""
+        good = book.make(LISTING_BOOK)
+        for count in (len(good) + 32, 2 ** 32, 2 ** 63, 2 ** 64 - 31, 2 ** 64 - 1):
+            self.assertEqual(book_bytes.added(good + bytes(31), count, b"", b""), (3, good + bytes(31)))
+
+    def test_the_sample_close_row_by_row(self):
+        text = (SAMPLE / "book.csv").read_text(encoding="utf-8")
+        rows = [line for line in text.splitlines() if not line.startswith("#")]
+        data = book.make(f"# machines 4\n{rows[0]}\n")
+        self.assertEqual(data, b"\4\0\0\0")
+        for place, row in enumerate(rows[1:], 1):
+            grown = book.make("\n".join(["# machines 4", *rows[:place + 1], ""]))
+            self.assert_added(data, row, grown)
+            data = grown
+        self.assertEqual((len(rows), data), (21, book.make(text)))
+
+    def test_from_a_file_without_rows(self):
+        """Whatever the machine count; the cells with payments or without."""
+        for machines in (2, 16):
+            path = self.file("b.csv", f"# machines {machines}\n" + HEADER)
+            self.assertEqual(tool("book.py", "make", path, self.folder / "book.bin").returncode, 0)
+            for row in (GOOD, SECOND.replace(",,", ",12,,")):
+                self.assertEqual(self.add(row.strip()).returncode, 0)
+            made = book.make(f"# machines {machines}\n" + WITH_PAYMENTS + GOOD.replace(",4,", ",,4,") + SECOND.replace(",,", ",12,,"))
+            self.assertEqual((self.folder / "book.bin").read_bytes(), made)
+
+    def test_payments(self):
+        """An empty cell is the byte 0, and 2 is the byte 2."""
+        empty = book.make("# machines 2\n" + HEADER)
+        for cell, byte in (("", 0), ("1", 1), ("2", 2), ("4", 4), ("12", 12)):
+            self.assert_added(empty, f"ZZ0000000016,fixed,2,{cell},4,0", b"\2\0\1\0ZZ0000000016\2\2" + bytes([byte]) + struct.pack("<dd", 4.0, 0.0))
+        allowed = " is none of 1, 2, 4 and 12 payments a year; an empty cell is 2"
+        self.assert_refused(empty, "ZZ0000000016,fixed,2,3,4,0", 3, f"row 3, column payments: 3{allowed} (refused 7)")
+        self.assert_refused(empty, "ZZ0000000016,fixed,2,0,4,0", 1, f"row 3, column payments: 0{allowed}")
+
+    def test_refused_2(self):
+        """Of a book of 64 bonds, before the row is looked at."""
+        rows = [f"{name.decode()},zero,1,,0\n" for name in names(65)]
+        most = book.make("# machines 2\n" + HEADER + "".join(rows[:63]))
+        full = book.make("# machines 2\n" + HEADER + "".join(rows[:64]))
+        self.assert_added(most, rows[63].strip(), full)
+        for row in (rows[64].strip(), rows[0].strip(), "Z,bill,0,,9", "no row"):
+            self.assert_refused(full, row, 3, "65 bonds, and a book has 64 at most (refused 2)")
+
+    def test_refused_4_to_7(self):
+        """By the cell, in the row that show would print last."""
+        old = book.make(LISTING_BOOK)
+        for row, *lines in (
+                ("zz0000000032,fixed,2,4,0", "identifier: 'zz0000000032' is no identifier: character 1 is 'z', and A to Z is expected there; did you "
+                                             "mean ZZ0000000032? (refused 4)"),
+                ("zz0000000016,fixed,2,4,0", "identifier: 'zz0000000016' is no identifier: character 1 is 'z', and A to Z is expected there; as "
+                                             "ZZ0000000016 it is the identifier of row 3 too (refused 4)"),
+                ("ZZ000000003,fixed,2,4,0", "identifier: 'ZZ000000003' is no identifier: it has 11 characters, and an identifier has 12 (refused 4)"),
+                ("ZZ00000000320,fixed,2,4,0", "identifier: 'ZZ00000000320' is no identifier: character 13 is '0'"),
+                (os.fsdecode(b"ZZ000\xff000032,fixed,2,4,0"), "identifier: 'ZZ000<the byte 255>000032' is no identifier: character 6 is the byte 255"),
+                (",fixed,2,4,0", "identifier: '' is no identifier: it has 0 characters"),
+                ("ZZ0000000033,fixed,2,4,0", "identifier: the check digit of ZZ0000000033 is 2 (refused 5)"),
+                ("ZZ0000000016,fixed,2,4,0", "identifier: ZZ0000000016 is the identifier of row 3 too (refused 6)"),
+                ("ZZ0000000024,fixed,2,4,0", "identifier: ZZ0000000024 is the identifier of row 4 too (refused 6)"),
+                ("ZZ0000000032,fixed,241,4,0", "periods: 241 is outside 1 to 240 (refused 7)"),
+                ("ZZ0000000032,zero,2,-0.0,0", "coupon: a zero has no coupon, and this is -0.0 (refused 7)"),
+                ("ZZ0000000032,fixed,2,4,4.25", "yield: 4.25 is outside -0.5 to 1; 4.25 percent is written 0.0425 (refused 7)"),
+                ("ZZ0000000016,fixed,0,101,2", "identifier: ", "periods: 0 ", "coupon: 101 ", "yield: 2 "),
+                ("ZZ0000000033,bill,2,4,0", "identifier: ", "kind: 'bill' is neither zero nor fixed")):
+            self.assert_refused(old, row, 3, *(f"row 5, column {line}" for line in lines))
+
+    def test_faulty_books(self):
+        """By their own number, whatever the row says."""
+        good = book.make(LISTING_BOOK)
+        for number, data in (
+                (1, b""), (1, good[:3]), (2, b"\x01" + good[1:]), (2, good[:2] + b"\xff\xff"), (3, good[:-1]), (3, good + b"\0"), (3, good + bytes(5000)),
+                (4, good[:14] + b"\xff" + good[15:]), (5, good[:15] + b"7" + good[16:]), (6, good[:16] + good[4:16] + good[28:]),
+                (7, good[:28] + b"\x09" + good[29:])):
+            for row in ("ZZ0000000032,fixed,2,4,0", "Z,bill"):
+                self.assert_refused(data, row, 3, f"{self.folder / 'book.bin'} is a faulty book: ")
+                self.assert_message(self.add(row), f"(refused {number})")
+
+    def test_rows_without_meaning(self):
+        old = book.make(LISTING_BOOK)
+        expected = ", and a row has 5, or 6 with payments after periods"
+        for row, line in (
+                ("", "0 rows, and one is added at a time"), (" , ,", "0 rows"), ("ZZ0000000032,fixed,2,4,0\nZZ0000000040,fixed,2,4,0", "2 rows"),
+                ("ZZ0000000032", f"row 5: 1 cell{expected}"), ("ZZ0000000032,fixed,2,4", f"row 5: 4 cells{expected}"),
+                ("ZZ0000000032,fixed,2,,4,5,0", f"row 5: 7 cells{expected}; decimals are written with a point"),
+                ("ZZ0000000032;fixed;2;4,5;0,05", "row 5: its cells are parted by semicolons, not by commas"),
+                ("ZZ0000000032,fixed,2,4,0,", "row 5, column yield: an empty cell is not a number"),
+                ("ZZ0000000032,bill,2,4,0", "row 5, column kind: 'bill' is neither zero nor fixed"),
+                ("ZZ0000000032,2,2,4,0", "row 5, column kind: '2' is neither zero nor fixed"),
+                ("ZZ0000000032,fixed,two,4,0", "row 5, column periods: 'two' is not a whole number"),
+                ("ZZ0000000032,fixed,2,4.5%,0", "row 5, column coupon: '4.5%' is not a number; 4.5 percent is written 4.5"),
+                ('ZZ0000000032,fixed,2,"4,5",0', "row 5, column coupon: '4,5' is not a number; decimals are written with a point"),
+                ('"ZZ0000000032', "not a row of CSV: line 1: ")):
+            self.assert_refused(old, row, 1, line)
+        for row in ('"ZZ0000000032","Fixed",+2, 4e0 ,.0', "ZZ0000000032,fixed,2,,4,0,,", "\nZZ0000000032,fixed,2,4,0\n"):
+            self.assert_added(old, row, book.make(LISTING_BOOK + "ZZ0000000032,fixed,2,4,0\n"))
+
+    def test_rates_in_the_other_unit(self):
+        """A warning stops nothing."""
+        old = book.make(LISTING_BOOK)
+        coupon = "warning: row 5, column coupon: 0.045 is taken as 0.045 per 100 of face; a coupon of 4.5 percent is written 4.5"
+        ytm = "warning: row 5, column yield: 0.95 is taken as 95 percent; a yield of 0.95 percent is written 0.0095"
+        path = self.file("book.bin", old)
+        done = self.add("ZZ0000000032,fixed,2,0.045,0.95")
+        self.assertEqual((done.returncode, done.stderr.decode()), (0, f"book.py: {coupon}\nbook.py: {ytm}\n"))
+        self.assertEqual(path.read_bytes(), book.make(LISTING_BOOK + "ZZ0000000032,fixed,2,0.045,0.95\n"))
+
+    def test_the_file_is_replaced_whole(self):
+        """With its mode, also behind a link; on a full disk the old book stays."""
+        old, row = book.make(LISTING_BOOK), "ZZ0000000032,fixed,2,4,0"
+        path = self.file("far.bin", old)
+        path.chmod(0o604)
+        (self.folder / "book.bin").symlink_to("far.bin")
+        done = tool("book.py", "add", self.folder / "book.bin", row, before=small_files)
+        self.assert_lines(done, f"{self.folder / 'book.bin'} cannot be written: File too large")
+        self.assertEqual((done.returncode, path.read_bytes()), (1, old))
+        self.assertEqual(self.add(row).returncode, 0)
+        self.assertEqual((path.read_bytes(), path.stat().st_mode & 0o7777), (book.make(LISTING_BOOK + row + "\n"), 0o604))
+        self.assertEqual({file.name for file in self.folder.iterdir()}, {"book.bin", "far.bin"})
+
+    def test_statuses(self):
+        """1 where the book cannot be read, 2 for a wrong command."""
+        none = self.folder / "none"
+        self.assert_lines(tool("book.py", "add", none, GOOD), f"{none} cannot be read: No such file or directory")
+        for arguments, status in (([none, GOOD], 1), ([self.folder, GOOD], 1), ([none], 2), (["", GOOD], 2), ([none, GOOD, GOOD], 2)):
+            self.assertEqual(tool("book.py", "add", *arguments).returncode, status)
+        self.assertFalse(none.exists())
 
 
 class Events(Folder):
@@ -1091,7 +1266,7 @@ class Compare(Folder):
 class Damage(Folder):
     def test_help(self):
         """It is the whole docstring: formats, numbers, exit statuses."""
-        for command in (["book.py"], ["book.py", "make"], ["book.py", "show"], ["events.py"], ["events.py", "make"], ["events.py", "show"],
+        for command in (["book.py"], ["book.py", "make"], ["book.py", "add"], ["book.py", "show"], ["events.py"], ["events.py", "make"], ["events.py", "show"],
                         ["model.py"], ["picture.py"]):
             shown = " ".join(tool(*command, "--help").stdout.decode().split())
             self.assertRegex(shown, "The exit status is 0 where .* 1 where .* 2 for a wrong command.* 130 where the tool is interrupted")

@@ -5,12 +5,15 @@ mod events;
 mod identifiers;
 mod prices;
 mod timing;
+mod writer;
 
 fn main() {
     println!("### Identifiers\n");
     identifiers::table();
     println!("\n### Prices\n");
     prices::table();
+    println!("\n### Adding entries\n");
+    writer::table();
     println!("\n### Events, by how many there are\n");
     let sixteen: Vec<_> = [1_000, 5_000, 20_000].iter().map(|&count| (16, count)).collect();
     events::table(&sixteen);

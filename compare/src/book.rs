@@ -1,10 +1,12 @@
-//! The book: "Sizes first, then two parallel arrays."
+//! The book: "Sizes first, then two parallel arrays." And adding an entry to one (document 02, 2.2).
 
 use crate::isin;
 use crate::price::{Bond, Terms};
+use crate::table::ENTRIES;
 
 pub const IDENTIFIER: usize = 12;
 pub const TERM: usize = 19;
+pub const ENTRY: usize = IDENTIFIER + TERM;
 
 /// The bytes of an accepted book and its two sizes.
 #[derive(Clone, Copy, Debug)]
@@ -25,7 +27,7 @@ impl<'a> Book<'a> {
         if !(2..=16).contains(&machines) || entries > 64 {
             return Err(2);
         }
-        if bytes.len() != 4 + (IDENTIFIER + TERM) * entries {
+        if bytes.len() != 4 + ENTRY * entries {
             return Err(3);
         }
         let book = Book { bytes, machines, entries };
@@ -88,6 +90,48 @@ pub fn term(bytes: &[u8]) -> Option<Bond> {
     Some(Bond { periods: bytes[1], payments, terms }).filter(Bond::in_range)
 }
 
+/// "it takes a buffer whose first bytes, of a stated count, are a book, and one identifier with its terms, and
+/// leaves in the buffer the book with that entry last. [..] The bytes past the grown book are untouched."
+/// (document 02, 2.2). The number; the buffer changes where it is 0.
+pub fn add(buffer: &mut [u8], count: usize, identifier: &[u8], terms: &[u8]) -> u8 {
+    match entries_to_grow(buffer, count, identifier, terms) {
+        Err(number) => number,
+        Ok(entries) => {
+            let names = 4 + IDENTIFIER * entries;
+            buffer.copy_within(names..count, names + IDENTIFIER);
+            buffer[names..][..IDENTIFIER].copy_from_slice(identifier);
+            buffer[count + IDENTIFIER..][..TERM].copy_from_slice(terms);
+            buffer[2..4].copy_from_slice(&(entries as u16 + 1).to_le_bytes());
+            0
+        }
+    }
+}
+
+/// The entries of a book that one more can be added to, or the number of the refusal.
+fn entries_to_grow(buffer: &[u8], count: usize, identifier: &[u8], terms: &[u8]) -> Result<usize, u8> {
+    // "A stated count past the buffer's end is refused 3 before all else."
+    let (bytes, rest) = buffer.split_at_checked(count).ok_or(3)?;
+    // "In this order: a faulty book is refused by its own number, a 65th entry by 2, a faulty entry by 4 to 7."
+    let book = Book::read(bytes)?;
+    if book.entries == ENTRIES {
+        return Err(2);
+    }
+    // "An identifier not of 12 bytes is refused 4, terms not of 19 bytes 7."
+    match isin::verdict(identifier) {
+        0 => {}
+        number => return Err(number),
+    }
+    if (0..book.entries).any(|entry| book.identifier(entry) == identifier) {
+        return Err(6);
+    }
+    term(terms).ok_or(7)?;
+    // "23, buffer shorter than the grown book, checked last"
+    if rest.len() < ENTRY {
+        return Err(23);
+    }
+    Ok(book.entries)
+}
+
 fn f64_at(bytes: &[u8], at: usize) -> f64 {
     let mut word = [0; 8];
     word.copy_from_slice(&bytes[at..at + 8]);
@@ -135,6 +179,48 @@ mod tests {
     fn zero_coupon_has_no_coupon() {
         assert!(term(&term_bytes(1, 2, 0.0, -0.0)).is_some());
         assert!(term(&term_bytes(1, 2, -0.0, 0.0)).is_none());
+    }
+
+    /// The book of document 01's listing from its empty one, with bytes after it that stay.
+    #[test]
+    fn added() {
+        let terms = [term_bytes(2, 2, 4.0, 0.0), term_bytes(1, 2, 0.0, 0.5)];
+        let names = [b"ZZ0000000016", b"ZZ0000000024"];
+        let mut buffer = [&[2, 0, 0, 0][..], &[0xEE; 2 * ENTRY + 3]].concat();
+        assert_eq!(add(&mut buffer, 4, names[0], &terms[0]), 0);
+        assert_eq!(add(&mut buffer, 35, names[1], &terms[1]), 0);
+        let book = [&[2, 0, 2, 0], &names[0][..], names[1], &terms[0], &terms[1]].concat();
+        assert_eq!(buffer, [&book[..], &[0xEE; 3]].concat());
+        assert_eq!(add(&mut buffer, book.len(), b"US0378331005", &terms[0]), 23);
+        assert_eq!(add(&mut buffer, book.len(), b"US0378331005", &terms[0][..18]), 7);
+        assert_eq!(add(&mut buffer, book.len(), names[0], &[]), 6);
+        assert_eq!(add(&mut buffer, book.len(), b"US0378331006", &[]), 5);
+        assert_eq!(add(&mut buffer, book.len(), b"US037833100", &[]), 4);
+        assert_eq!(add(&mut buffer, book.len() + 1, b"US0378331005", &terms[0]), 3);
+        assert_eq!(add(&mut buffer, usize::MAX, &[], &[]), 3);
+        assert_eq!(add(&mut buffer, 3, &[], &[]), 1);
+        assert_eq!(buffer, [&book[..], &[0xEE; 3]].concat());
+    }
+
+    /// Of the numbers for the room, 30 bytes are too few and 31 enough; 64 entries are full.
+    #[test]
+    fn room() {
+        let terms = term_bytes(2, 2, 4.0, 0.0);
+        let mut names = (1..).map(|i: u32| {
+            let first = format!("ZZ{i:09}").into_bytes();
+            [&first[..], &[isin::check_character(&first)]].concat()
+        });
+        let mut buffer = vec![2, 0, 0, 0];
+        for name in names.by_ref().take(ENTRIES) {
+            let count = buffer.len();
+            buffer.resize(count + ENTRY - 1, 0);
+            assert_eq!(add(&mut buffer, count, &name, &terms), 23);
+            buffer.push(0);
+            assert_eq!(add(&mut buffer, count, &name, &terms), 0);
+            assert!(Book::read(&buffer).is_ok());
+        }
+        let last = names.next().expect("a name more");
+        assert_eq!(add(&mut buffer, 4 + ENTRY * ENTRIES, &last, &terms), 2);
     }
 
     #[test]

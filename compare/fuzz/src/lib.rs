@@ -1,7 +1,7 @@
 //! One input of libFuzzer, given to the library and to the second implementation. A difference stops the
 //! program, as does a read or write outside a buffer.
 //!
-//! The first byte says what the rest is, modulo 6:
+//! The first byte says what the rest is, modulo 7:
 //!
 //! 0. an identifier;
 //! 1. a term;
@@ -9,7 +9,9 @@
 //! 3. the length of a book (2 bytes), the book, and events for its page;
 //! 4. the length of a book (2 bytes), the book, and what is done to the table opened from it: events of 3
 //!    bytes, and changes of one byte (240, offset in 2 bytes, value);
-//! 5. the bytes of a table (shorter ones are filled with 0), then one event.
+//! 5. the bytes of a table (shorter ones are filled with 0), then one event;
+//! 6. a count (2 bytes; from 65,280 on, the largest counts there are), the lengths of an identifier and of terms
+//!    (a byte each), these two, and a buffer: the entry is added to the book that is its first bytes.
 
 #[path = "../../src/bin/compare/library.rs"]
 mod library;
@@ -34,7 +36,7 @@ thread_local! {
 pub unsafe extern "C" fn LLVMFuzzerTestOneInput(data: *const u8, size: usize) -> i32 {
     if size > 0 {
         let input = std::slice::from_raw_parts(data, size);
-        LIBRARY.with(|library| one_input(&mut library.borrow_mut(), input[0] % 6, &input[1..]));
+        LIBRARY.with(|library| one_input(&mut library.borrow_mut(), input[0] % 7, &input[1..]));
     }
     0
 }
@@ -46,7 +48,8 @@ fn one_input(library: &mut Library, kind: u8, input: &[u8]) {
         2 => one_price(library, input),
         3 => one_page(library, input),
         4 => one_run(library, input),
-        _ => one_table(library, input),
+        5 => one_table(library, input),
+        _ => one_entry(library, input),
     }
 }
 
@@ -132,6 +135,25 @@ fn one_table(library: &mut Library, input: &[u8]) {
     let mut bytes = table.to_vec();
     bytes.resize(BYTES, 0);
     Kept { bytes, table: None }.step(library, event);
+}
+
+/// One call of the writer, and the grown book read again.
+fn one_entry(library: &mut Library, input: &[u8]) {
+    let [low, high, names, terms, ref rest @ ..] = *input else { return };
+    let (identifier, rest) = rest.split_at(rest.len().min(names.into()));
+    let (terms, buffer) = rest.split_at(rest.len().min(terms.into()));
+    let count = match u16::from_le_bytes([low, high]) {
+        large @ 0xFF00.. => usize::MAX - usize::from(u16::MAX - large),
+        count => count.into(),
+    };
+    let (mut proved, mut second) = (buffer.to_vec(), buffer.to_vec());
+    let number = book::add(&mut second, count, identifier, terms);
+    same("number of an entry", library.add(&mut proved, count, identifier, terms), number);
+    same("buffer after an entry", &proved, &second);
+    if number == 0 {
+        let grown = &proved[..count + book::ENTRY];
+        same("book with an entry more", library.book(grown), Book::read(grown).err().unwrap_or(0));
+    }
 }
 
 /// A snapshot, and the same for the second implementation where it was read and passes check 9.

@@ -8,6 +8,7 @@ ghost use Rattle.isin.specs.Isin.{verdictOf};
 ghost use Rattle.pricer.specs.Price.{zeroPrice, fixedPrice};
 ghost use Rattle.book_term.specs.Term.{termOf, termNumber};
 ghost use Rattle.book.specs.Book.{bookVerdict};
+ghost use Rattle.book_writer.specs.Writer.{addNumber, addBytes};
 ghost use Rattle.page.specs.Page.{eventsOf, printedOf, bufferOf, Reported};
 ghost use Rattle.snapshot.specs.Snapshot.{checkOf, stepNumber, stepBytes, openNumber, openBytes};
 ghost use Rattle.rakhvide_c.specs.Terms.{termBits};
@@ -28,6 +29,20 @@ pub extern "C" fn rakhvide_book(book: &[u8]) -> u8
     ensures { λ r. ⌜ r ≡ bookVerdict (now (book .entry)) ⌝ }
 {
     book::verdict(book)
+}
+
+// Adds an entry to the book in the first `count` bytes of the buffer: 0, or the number of a refusal, which leaves the buffer as it was.
+#[no_mangle]
+pub extern "C" fn rakhvide_add(
+    buffer: &mut [u8],
+    count: usize,
+    identifier: &[u8],
+    term: &[u8],
+) -> u8
+    ensures { λ r. ⌜ r ≡ addNumber (now (buffer .entry)) count (now (identifier .entry)) (now (term .entry)) ⌝ }
+    ensures { λ _. ⌜ now (buffer .exit) ≡ addBytes (now (buffer .entry)) count (now (identifier .entry)) (now (term .entry)) ⌝ }
+{
+    book_writer::add(buffer, count, identifier, term)
 }
 
 // 0 for a term that was read, 7 for one outside the rules.

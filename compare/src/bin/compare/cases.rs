@@ -24,7 +24,7 @@ pub struct Trial {
     pub coverage: Coverage,
 }
 
-fn same<T: PartialEq + std::fmt::Debug>(what: &str, library: T, second: T) -> Result<(), String> {
+pub fn same<T: PartialEq + std::fmt::Debug>(what: &str, library: T, second: T) -> Result<(), String> {
     if library == second {
         Ok(())
     } else {
@@ -181,7 +181,7 @@ fn count_book(coverage: &mut Coverage, bytes: &[u8]) {
 }
 
 /// The table opened from a book, in a buffer that is mostly of the right length.
-fn opened(trial: &mut Trial, rng: &mut Rng, book: &[u8]) -> Result<Vec<u8>, String> {
+pub fn opened(trial: &mut Trial, rng: &mut Rng, book: &[u8]) -> Result<Vec<u8>, String> {
     let other = [0, 1, BEFORE_PAYMENTS, BYTES - 1, BYTES + 1];
     let length = if rng.chance(1, 20) { rng.pick(&other) } else { BYTES };
     let before: Vec<u8> = (0..length).map(|at| (at % 251) as u8).collect();

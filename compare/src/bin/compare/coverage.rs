@@ -60,6 +60,38 @@ const PAYMENTS: [(&str, &[Option<u8>]); 9] = [
     ("unused entry refused for it", &[Some(1), Some(2), Some(4), Some(12)]),
 ];
 
+/// What is to be met of adding an entry.
+const WRITER: [&str; 28] = [
+    "count past the end",
+    "count near the largest",
+    "book refused 1",
+    "book refused 2",
+    "book refused 3",
+    "book refused 4",
+    "book refused 5",
+    "book refused 6",
+    "book refused 7",
+    "faulty book, faulty entry, no room",
+    "65th entry",
+    "65th entry, faulty, no room",
+    "form of the identifier",
+    "identifier of another length",
+    "check digit",
+    "identifier of the first entry",
+    "identifier of the last entry",
+    "terms",
+    "terms of another length",
+    "faulty entry and no room",
+    "no room",
+    "30 bytes of room",
+    "accepted",
+    "accepted in 31 bytes of room",
+    "accepted as the 64th entry",
+    "accepted with a third byte 0",
+    "book built",
+    "book of 64 entries built",
+];
+
 /// Answers by event code (0: no code of document 01) and number.
 #[derive(Default)]
 pub struct Answers([[u64; 23]; 8]);
@@ -90,11 +122,14 @@ impl Answers {
 #[derive(Default)]
 pub struct Coverage {
     /// Cases of simple inputs by their number.
-    pub identifiers: [u64; 23],
-    pub characters: [u64; 23],
-    pub terms: [u64; 23],
-    pub books: [u64; 23],
-    pub opened: [u64; 23],
+    pub identifiers: [u64; 24],
+    pub characters: [u64; 24],
+    pub terms: [u64; 24],
+    pub books: [u64; 24],
+    pub opened: [u64; 24],
+    pub added: [u64; 24],
+    /// By the names of `WRITER`.
+    pub writer: BTreeMap<&'static str, u64>,
     pub prices: u64,
     /// By the names of `BELOW_ZERO`.
     pub below_zero: BTreeMap<&'static str, u64>,
@@ -147,6 +182,11 @@ impl Coverage {
         *self.payments.entry((place, payments)).or_default() += 1;
     }
 
+    /// Something of `WRITER` was met.
+    pub fn count_writer(&mut self, name: &'static str) {
+        *self.writer.entry(name).or_default() += 1;
+    }
+
     pub fn table(&mut self, table: &Table) {
         self.most_in_flight = self.most_in_flight.max(table.in_flight);
         let largest = table.jobs.iter().map(|job| job.replica).max();
@@ -160,6 +200,7 @@ impl Coverage {
             ("terms", &self.terms),
             ("books", &self.books),
             ("opened", &self.opened),
+            ("added", &self.added),
         ] {
             let seen = counts.iter().enumerate().filter(|(_, count)| **count > 0);
             let text: Vec<String> = seen.map(|(number, count)| format!("{number}: {count}")).collect();
@@ -171,6 +212,10 @@ impl Coverage {
             println!("  {name:29} {count}");
         }
         self.print_payments();
+        println!("entries added");
+        for name in WRITER {
+            println!("  {name:29} {}", self.writer.get(name).unwrap_or(&0));
+        }
         println!(
             "runs         {}; pages {}, the longest of {} bytes",
             self.runs, self.pages, self.longest_page
@@ -227,6 +272,8 @@ impl Coverage {
             PAYMENTS.iter().flat_map(|(place, all)| all.iter().map(move |payments| (*place, *payments)));
         let never = payments.filter(|both| !self.payments.contains_key(both));
         missing.extend(never.map(|(place, payments)| format!("payments {payments:?}: {place}")));
+        let never = WRITER.iter().filter(|name| !self.writer.contains_key(*name));
+        missing.extend(never.map(|name| format!("entry added: {name}")));
         if self.without_payments == 0 {
             missing.push("snapshot of the old length".into());
         }

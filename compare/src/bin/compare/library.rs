@@ -21,6 +21,15 @@ mod c {
             no: usize,
             length: *mut usize,
         ) -> bool;
+        pub fn rakhvide_add(
+            buffer: *mut u8,
+            n: usize,
+            count: usize,
+            identifier: *const u8,
+            ni: usize,
+            terms: *const u8,
+            nt: usize,
+        ) -> u8;
         pub fn rakhvide_open(book: *const u8, nb: usize, table: *mut u8, nt: usize) -> u8;
         pub fn rakhvide_check(table: *const u8, nt: usize) -> u8;
         pub fn rakhvide_step(table: *mut u8, nt: usize, event: *const u8, ne: usize) -> u8;
@@ -139,6 +148,18 @@ impl Library {
         self.first.unchanged(book);
         self.second.unchanged(events);
         (written, length, self.out.get(buffer.len()))
+    }
+
+    /// The number; `buffer` becomes what the buffer holds after the call.
+    pub fn add(&mut self, buffer: &mut [u8], count: usize, identifier: &[u8], terms: &[u8]) -> u8 {
+        let (name, term) = (self.first.put(identifier), self.second.put(terms));
+        let out = self.out.put(buffer);
+        let number =
+            unsafe { c::rakhvide_add(out, buffer.len(), count, name, identifier.len(), term, terms.len()) };
+        self.first.unchanged(identifier);
+        self.second.unchanged(terms);
+        buffer.copy_from_slice(self.out.get(buffer.len()));
+        number
     }
 
     /// The number; `table` becomes what the buffer holds after the call.

@@ -16,6 +16,7 @@ mod inputs;
 mod library;
 mod rng;
 mod seeds;
+mod writer;
 
 use cases::{Outcome, Trial};
 use rng::Rng;
@@ -28,7 +29,7 @@ struct Section {
     share: u64,
 }
 
-const SECTIONS: [Section; 7] = [
+const SECTIONS: [Section; 9] = [
     Section { name: "identifiers", case: cases::identifier, share: 500 },
     Section { name: "terms", case: cases::term, share: 500 },
     Section { name: "prices", case: cases::price, share: 200 },
@@ -36,6 +37,8 @@ const SECTIONS: [Section; 7] = [
     Section { name: "runs", case: cases::run, share: 1000 },
     Section { name: "damaged", case: cases::damaged, share: 100 },
     Section { name: "characters", case: cases::characters, share: 50 },
+    Section { name: "added", case: writer::added, share: 50 },
+    Section { name: "built", case: writer::built, share: 50 },
 ];
 
 /// From this count on, all of `Coverage::missing` must have been reached.

@@ -20,6 +20,7 @@ pub fn write(folder: &Path) -> std::io::Result<()> {
             book_and_events(rng),
             book_and_events(rng),
             cases::reached(rng).to_bytes().to_vec(),
+            entry_and_buffer(rng),
         ];
         for (kind, input) in inputs.iter().enumerate() {
             std::fs::write(
@@ -52,4 +53,14 @@ fn book_and_events(rng: &mut Rng) -> Vec<u8> {
         }
     }
     input
+}
+
+/// A count, an identifier and terms, each after its length, and a buffer with a small book.
+fn entry_and_buffer(rng: &mut Rng) -> Vec<u8> {
+    let (machines, entries) = (2 + rng.number(4), rng.number(5));
+    let book = Draft::new(rng, machines.into(), entries.into()).bytes();
+    let (identifier, terms) = (inputs::identifier(rng), inputs::term(rng));
+    let lengths = [identifier.len() as u8, terms.len() as u8];
+    let room = vec![rng.byte(); 30 + rng.below(4)];
+    [&(book.len() as u16).to_le_bytes()[..], &lengths, &identifier, &terms, &book, &room].concat()
 }

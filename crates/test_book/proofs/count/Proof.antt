@@ -7,10 +7,10 @@ use Rattle.test_book.proofs.count.Statement.{statement}
 use Rattle.test_book.proofs.count.Tie as tie
 
 abbrev Inv-loop : tie.InvT-loop
-Inv-loop «data» which total₀ at₀ i₀ total at i = (at ≤ length «data») × (total ≤ at) × (i ≤ at)
+Inv-loop «data» content which total₀ at₀ i₀ total at i = (at ≤ length «data») × (total ≤ at) × (i ≤ at)
 
 abbrev μ-loop : tie.MeasureT-loop
-μ-loop «data» which total₀ at₀ i₀ total at i = length «data» - at
+μ-loop «data» content which total₀ at₀ i₀ total at i = length «data» - at
 
 pub count-spec : {M : Type 1} → statement M
 count-spec =
