@@ -445,20 +445,23 @@ def record(text):
     return struct.pack("<HBBBB", len(text), number, machines, n, len(questions)) + text + b"".join(questions)
 
 
-def write_file(file, cases):
-    """Writes a data file, and answers the lines that the program prints of it."""
-    for at, (number, text) in enumerate(cases):
-        fail_unless(number_of(text) == number, f"{file}, record {at}: {number_of(text)}, and {number} is stated")
-    texts = list(dict.fromkeys(text for _, text in cases))
-    data = b"".join(map(record, texts))
+def write_records(file, stated, number_of_case, record_of, numbers):
+    """Writes a data file of cases, each with its stated number; answers them, none twice, and the lines of their numbers."""
+    for at, (number, case) in enumerate(stated):
+        fail_unless(number_of_case(case) == number, f"{file}, record {at}: {number_of_case(case)}, and {number} is stated")
+    cases = list(dict.fromkeys(case for _, case in stated))
+    data = b"".join(map(record_of, cases))
     fail_unless(len(data) <= MOST, f"{len(data)} bytes in {file}")
     (CRATE / "data").mkdir(parents=True, exist_ok=True)
     (CRATE / "data" / file).write_bytes(data)
-    numbers = [number_of(text) for text in texts]
-    lines = [file]
-    for number in NUMBERS:
-        label = f"refused {number}" if number else "accepted"
-        lines.append(f"{label}: {numbers.count(number)} of {numbers.count(number)}")
+    found = [number_of_case(case) for case in cases]
+    labels = {number: f"refused {number}" if number else "accepted" for number in numbers}
+    return cases, [file] + [f"{labels[number]}: {found.count(number)} of {found.count(number)}" for number in numbers]
+
+
+def write_file(file, cases):
+    """Writes a data file, and answers the lines that the program prints of it."""
+    texts, lines = write_records(file, cases, number_of, record, NUMBERS)
     identifiers = sum(len(asked(text)) for text in texts)
     return lines + [f"books: {len(texts)}", f"identifiers: {identifiers}", "differences: 0"]
 

@@ -260,18 +260,8 @@ def record(case: Case) -> bytes:
 
 def write_file(file: str, stated: list[tuple[int, Case]]) -> list[str]:
     """Writes a data file, and answers the lines that the program prints of it."""
-    for at, (number, case) in enumerate(stated):
-        fail_unless(number_of(case) == number, f"{file}, record {at}: {number_of(case)}, and {number} is stated")
-    cases = list(dict.fromkeys(case for _, case in stated))
-    data = b"".join(map(record, cases))
-    fail_unless(len(data) <= MOST, f"{len(data)} bytes in {file}")
-    (CRATE / "data" / file).write_bytes(data)
-    numbers = [number_of(case) for case in cases]
-    lines = [file]
-    for number in NUMBERS:
-        label = f"refused {number}" if number else "accepted"
-        lines.append(f"{label}: {numbers.count(number)} of {numbers.count(number)}")
-    return lines + [f"calls: {len(cases)}", "differences: 0"]
+    cases, lines = books.write_records(file, stated, number_of, record, NUMBERS)
+    return [*lines, f"calls: {len(cases)}", "differences: 0"]
 
 
 def main() -> None:
