@@ -24,7 +24,6 @@ from make_book_cases import BAD_DIGIT, BAD_FORM, BAD_TERM, TOO_LOW, name, plain,
 from vector_files import ROOT, fail_unless
 
 CRATE = ROOT / "crates" / "test_book"
-MOST = 65535  # bytes of a file
 NUMBERS = [0, 1, 2, 3, 4, 5, 6, 7, 23]  # accepted, and the refusals
 ENTRY = 31  # bytes of an entry: an identifier and its terms
 

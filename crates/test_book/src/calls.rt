@@ -44,10 +44,10 @@ pub fn agrees(record: &[u8]) -> bool {
     if record.len() != after + size {
         return false;
     }
-    if 4096 < size {
+    if 2048 < size {
         return false;
     }
-    let mut work = [0u8; 4096];
+    let mut work = [0u8; 2048];
     text::put(&mut work, 0, &record[7..id]);
     leaves(
         &mut work[0..size],

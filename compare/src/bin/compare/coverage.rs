@@ -60,10 +60,8 @@ const PAYMENTS: [(&str, &[Option<u8>]); 9] = [
     ("unused entry refused for it", &[Some(1), Some(2), Some(4), Some(12)]),
 ];
 
-/// What is to be met of adding an entry.
-const WRITER: [&str; 28] = [
-    "count past the end",
-    "count near the largest",
+/// What is to be met of adding an entry: the numbers of faulty books,
+pub const REFUSED_BOOKS: [&str; 7] = [
     "book refused 1",
     "book refused 2",
     "book refused 3",
@@ -71,6 +69,12 @@ const WRITER: [&str; 28] = [
     "book refused 5",
     "book refused 6",
     "book refused 7",
+];
+
+/// and the rest.
+const WRITER: [&str; 21] = [
+    "count past the end",
+    "count near the largest",
     "faulty book, faulty entry, no room",
     "65th entry",
     "65th entry, faulty, no room",
@@ -91,6 +95,10 @@ const WRITER: [&str; 28] = [
     "book built",
     "book of 64 entries built",
 ];
+
+fn writer_names() -> impl Iterator<Item = &'static str> {
+    REFUSED_BOOKS.into_iter().chain(WRITER)
+}
 
 /// Answers by event code (0: no code of document 01) and number.
 #[derive(Default)]
@@ -128,7 +136,7 @@ pub struct Coverage {
     pub books: [u64; 24],
     pub opened: [u64; 24],
     pub added: [u64; 24],
-    /// By the names of `WRITER`.
+    /// By `writer_names`.
     pub writer: BTreeMap<&'static str, u64>,
     pub prices: u64,
     /// By the names of `BELOW_ZERO`.
@@ -182,7 +190,7 @@ impl Coverage {
         *self.payments.entry((place, payments)).or_default() += 1;
     }
 
-    /// Something of `WRITER` was met.
+    /// Something of `writer_names` was met.
     pub fn count_writer(&mut self, name: &'static str) {
         *self.writer.entry(name).or_default() += 1;
     }
@@ -213,7 +221,7 @@ impl Coverage {
         }
         self.print_payments();
         println!("entries added");
-        for name in WRITER {
+        for name in writer_names() {
             println!("  {name:29} {}", self.writer.get(name).unwrap_or(&0));
         }
         println!(
@@ -272,7 +280,7 @@ impl Coverage {
             PAYMENTS.iter().flat_map(|(place, all)| all.iter().map(move |payments| (*place, *payments)));
         let never = payments.filter(|both| !self.payments.contains_key(both));
         missing.extend(never.map(|(place, payments)| format!("payments {payments:?}: {place}")));
-        let never = WRITER.iter().filter(|name| !self.writer.contains_key(*name));
+        let never = writer_names().filter(|name| !self.writer.contains_key(name));
         missing.extend(never.map(|name| format!("entry added: {name}")));
         if self.without_payments == 0 {
             missing.push("snapshot of the old length".into());

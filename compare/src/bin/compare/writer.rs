@@ -1,6 +1,7 @@
 //! Cases of the writer: an entry added to a random book, and random books built from their empty ones.
 
 use crate::cases::{opened, same, Outcome, Trial};
+use crate::coverage::REFUSED_BOOKS;
 use crate::inputs::{self, Draft};
 use crate::rng::Rng;
 use second::book::{self, Book, ENTRY, IDENTIFIER, TERM};
@@ -9,16 +10,6 @@ use second::table::ENTRIES;
 
 /// Counts above this one are called near the largest.
 const NEAR_LARGEST: usize = usize::MAX - 4096;
-
-const REFUSED_BOOKS: [&str; 7] = [
-    "book refused 1",
-    "book refused 2",
-    "book refused 3",
-    "book refused 4",
-    "book refused 5",
-    "book refused 6",
-    "book refused 7",
-];
 
 /// What the writer is given.
 struct Call {
@@ -179,7 +170,7 @@ fn readers_number(trial: &mut Trial, call: &Call, number: u8) -> Result<(), Stri
     same("number of the book with the entry", trial.library.book(&grown), number)
 }
 
-/// What the call shows, by the names of `coverage::WRITER`.
+/// What the call shows, by the names of `coverage::writer_names`.
 fn reasons(call: &Call, number: u8) -> impl Iterator<Item = &'static str> {
     let room = call.buffer.len().saturating_sub(call.count);
     let book = call.book();

@@ -1,12 +1,16 @@
 -- `book_writer::book_number` meets its contract: each return is a case of the definition. Assumes nothing.
 use Prim.Native.Nat.{ℕ, _+_, _-_, _≤_, _<_}
 use mathlib.Core.Path.{_≡_, sym, _∙_}
+use mathlib.Core.Bool.{cond}
+use mathlib.Core.List.{List}
 use native.Mathlib.Omega.{arith}
 use borrow.Author.Tests.{le-leb, lt-leb, lt-ltb, le-ltb, eq-eqb, ne-eqb}
 use denote.Ref.{now}
+use lib.Dec.{ltb}
 use lib.ListN.{length, getD}
 use Rattle.book.specs.Book.{bookVerdict}
 use Rattle.book.specs.Parts.{entryCount}
+use Rattle.book.specs.Entry.{entryFault}
 use Rattle.book.proofs.Accepted.{whole-length, count-byte}
 use Rattle.book_writer.specs.Writer.{grown, bookNumber}
 use Rattle.book_writer.proofs.Answers.{longer}
@@ -22,12 +26,31 @@ accepted c = sym (c .before .verdict .ensures) ∙ c .if1 .left
 count-is : (c : tie.Else1) → let s = now (c .before .before .before .before .before .args .s) in getD s 2 0 ≡ entryCount s
 count-is c = count-byte _ (accepted c)
 
+-- an entry without fault, by the number that was answered for the first n entries
+faultless : (s id term : List ℕ) (n r : ℕ) → r ≡ entryFault s n id term → n ≡ entryCount s → r ≡ 0 → entryFault s (entryCount s) id term ≡ 0
+faultless s id term n r e k z = rw (← k, ← e) z
+
 -- past the third, the grown book has 31 bytes more
 longer-is : (c : tie.Else3) → let a = c .before .before .before .before .before .before .before .before .before .args in
     length (grown (now (a .s)) (now (a .id)) (now (a .term))) ≡ length (now (a .s)) + 31
 longer-is c =
     let l = c .before .before .before .before in
-    longer _ _ _ (accepted l) (rw (← count-is l) (sym (c .before .entry-fault .ensures) ∙ c .if3 .left))
+    longer _ _ _ (accepted l) (faultless _ _ _ _ _ (c .before .entry-fault .ensures) (count-is l) (c .if3 .left))
+
+-- and what is left of the definition is the test of the room
+room-left : (c : tie.Else3) → let a = c .before .before .before .before .before .before .before .before .before .args in
+    bookNumber (now (a .s)) (a .size) (now (a .id)) (now (a .term)) ≡ cond (ltb (a .size) (length (now (a .s)) + 31)) 23 0
+unfolding bookNumber
+room-left c =
+    let l = c .before .before .before .before in
+    rw (
+      eq-eqb _ _ (accepted l),
+      longer-is c,
+      ← count-is l,
+      lt-leb _ _ (c .before .before .if2 .left),
+      ← c .before .entry-fault .ensures,
+      eq-eqb _ _ (c .if3 .left),
+    )
 
 -- the test of the room, without a sum that might not fit a number
 shorter : (a b : ℕ) → a ≤ b → b - a < 31 → b < a + 31
@@ -63,32 +86,10 @@ returns-3 c =
     )
 
 returns-4 : tie.Need-returns-4
-unfolding bookNumber
-returns-4 c =
-    let l = c .before .before .before .before .before in
-    rw (
-      eq-eqb _ _ (accepted l),
-      longer-is (c .before),
-      lt-ltb _ _ (shorter _ _ (search needs) (c .if4 .taken)),
-      ← count-is l,
-      lt-leb _ _ (c .before .before .before .if2 .left),
-      ← c .before .before .entry-fault .ensures,
-      eq-eqb _ _ (c .before .if3 .left),
-    )
+returns-4 c = sym (room-left (c .before) ∙ rw (lt-ltb _ _ (shorter _ _ (search needs) (c .if4 .taken))))
 
 returns-5 : tie.Need-returns-5
-unfolding bookNumber
-returns-5 c =
-    let l = c .before .before .before .before .before in
-    rw (
-      eq-eqb _ _ (accepted l),
-      longer-is (c .before),
-      le-ltb _ _ (enough _ _ (search needs) (c .if4 .left)),
-      ← count-is l,
-      lt-leb _ _ (c .before .before .before .if2 .left),
-      ← c .before .before .entry-fault .ensures,
-      eq-eqb _ _ (c .before .if3 .left),
-    )
+returns-5 c = sym (room-left (c .before) ∙ rw (le-ltb _ _ (enough _ _ (search needs) (c .if4 .left))))
 
 pub book-number-spec : {M : Type 1} → statement M
 book-number-spec =
