@@ -44,6 +44,7 @@ pub fn agrees(record: &[u8]) -> bool {
     if record.len() != after + size {
         return false;
     }
+    // a longer buffer than the files have is a difference
     if 2048 < size {
         return false;
     }

@@ -60,7 +60,7 @@ const PAYMENTS: [(&str, &[Option<u8>]); 9] = [
     ("unused entry refused for it", &[Some(1), Some(2), Some(4), Some(12)]),
 ];
 
-/// What is to be met of adding an entry: the numbers of faulty books,
+/// What is to be met of adding an entry to a faulty book: its numbers.
 pub const REFUSED_BOOKS: [&str; 7] = [
     "book refused 1",
     "book refused 2",
@@ -71,7 +71,7 @@ pub const REFUSED_BOOKS: [&str; 7] = [
     "book refused 7",
 ];
 
-/// and the rest.
+/// What else is to be met of adding an entry.
 const WRITER: [&str; 21] = [
     "count past the end",
     "count near the largest",
