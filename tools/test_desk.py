@@ -1232,9 +1232,10 @@ class Bench(Folder):
         self.assertEqual((done.returncode, done.stderr.decode().splitlines(), done.stdout), (status, [f"bench/run: {line}"], b""))
 
     def test_usage(self):
-        for arguments in (["load"], ["load", self.folder, self.folder], ["draw"], ["draw", self.folder]):
-            self.assert_said(self.run_bench(*arguments), 2, "usage: bench/run, or bench/run load FOLDER")
+        for arguments in (["load"], ["load", self.folder, self.folder], ["beside"], ["draw"], ["draw", self.folder]):
+            self.assert_said(self.run_bench(*arguments), 2, "usage: bench/run, bench/run beside FILE, or bench/run load FOLDER")
         self.assert_said(self.run_bench("load", self.folder / "none"), 1, f"{self.folder / 'none'} is not a folder")
+        self.assert_said(self.run_bench("beside", self.folder), 1, f"{self.folder} is not a file")
 
     def test_what_is_not_there(self):
         commands = self.folder / "bin"

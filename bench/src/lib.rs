@@ -1,4 +1,4 @@
-//! The load: a book of 64 bonds, and a list of events over it that looks like a close.
+//! The loads: a book of 64 bonds, and lists of events over it, one that looks like a close and one of random events.
 
 use second::{book::Book, events::answer, isin, table::Table};
 
@@ -75,4 +75,68 @@ pub fn events(machines: u8, count: usize) -> Vec<u8> {
         }
     }
     bytes
+}
+
+/// An event of any code whose numbers are in range, so that the table alone decides. A death that would be one too many is the root's.
+fn any(numbers: &mut Numbers, machines: usize, deaths_left: bool) -> [u8; 3] {
+    let code = 1 + numbers.below(7) as u8;
+    let (a, b) = (numbers.below(machines) as u8, numbers.below(machines) as u8);
+    let job = numbers.below(64) as u8;
+    match code {
+        1 => [1, job, 0],
+        4 => [4, a, job],
+        5 => [5, a, 0],
+        6 => [6, if deaths_left { a } else { 0 }, 0],
+        _ => [code, a, b],
+    }
+}
+
+/// So many events at random, with one in 50 that may be accepted: nearly all of them are refused. A third of the machines die.
+fn refused(machines: u8, count: usize) -> Vec<u8> {
+    let mut numbers = Numbers(42);
+    let mut table = fresh(&book(machines));
+    let (mut bytes, mut deaths) = (Vec::new(), 0);
+    for _ in 0..count {
+        let event = match numbers.below(50) {
+            0 => candidate(&mut numbers, &table, machines as usize),
+            _ => any(&mut numbers, machines as usize, deaths < machines / 3),
+        };
+        deaths += (answer(&mut table, &event) == 0 && event[0] == 6) as u8;
+        bytes.extend(event);
+    }
+    bytes
+}
+
+/// A book and a list of events over it.
+pub struct Load {
+    pub name: &'static str,
+    pub book: Vec<u8>,
+    pub events: Vec<u8>,
+}
+
+impl Load {
+    /// The book alone.
+    pub fn none(machines: u8) -> Load {
+        Load { name: "none", book: book(machines), events: vec![] }
+    }
+
+    pub fn accepted(machines: u8, count: usize) -> Load {
+        Load { name: "accepted", book: book(machines), events: events(machines, count) }
+    }
+
+    pub fn refused(machines: u8, count: usize) -> Load {
+        Load { name: "refused", book: book(machines), events: refused(machines, count) }
+    }
+
+    /// How many events there are.
+    pub fn count(&self) -> usize {
+        self.events.len() / 3
+    }
+
+    /// How many of a hundred are refused.
+    pub fn refused_share(&self) -> f64 {
+        let mut table = fresh(&self.book);
+        let refused = self.events.chunks(3).filter(|event| answer(&mut table, event) != 0).count();
+        100.0 * refused as f64 / self.count() as f64
+    }
 }
