@@ -20,8 +20,9 @@ pub wellFormed-is : (e : List ℕ) → 3 ≤ length e
 unfolding wellFormed
 wellFormed-is e h = rw (le-leb 3 (length e) h)
 
-pub wellFormed-long : (e : List ℕ) → wellFormed e ≡ true → 3 ≤ length e
+pub wellFormed-code : (e : List ℕ) → wellFormed e ≡ true → (1 ≤ codeOf e) × (codeOf e ≤ lastCode)
 unfolding wellFormed
-wellFormed-long e f =
+wellFormed-code e f =
     let c = codeOf e in
-    leb-true 3 (length e) (chain-apart (leb 3 (length e)) (leb 1 c ∷ leb c lastCode ∷ (usesSecond c || eqb (secondOf e) 0) ∷ []) f .0)
+    let h = chain-apart (leb 3 (length e)) (leb 1 c ∷ leb c lastCode ∷ (usesSecond c || eqb (secondOf e) 0) ∷ []) f .1 in
+    (leb-true 1 c (h .0), leb-true c lastCode (h .1 .0))

@@ -8,3 +8,9 @@ pub mod Preserved
 pub mod Nine
 pub mod Ready
 pub mod Form
+pub mod Bytes
+pub mod Turns
+pub mod Search
+pub mod OnTable
+pub mod Look
+pub mod One

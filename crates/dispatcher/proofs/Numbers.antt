@@ -28,13 +28,7 @@ module _ (t : Table) (code a b : ℕ) (g : indicesInRange t code a b ≡ true) w
   unfolding indicesInRange
   start-in e = both a b (t .«machine_count») (t .«entry_count») (rw e at g)
 
--- so its numbers are within the arrays
-module _ (t : Table) (r : Ready t) (code a b : ℕ) (g : indicesInRange t code a b ≡ true) where
-  pub machines-below : twoMachines code ≡ true → (a < 16) × (b < 16)
-  machines-below e = let h = machines-in t code a b g e in (omega (arith, h .0, r .«machine_count»), omega (arith, h .1, r .«machine_count»))
-
-  pub entry-below : code ≡ ADMIT → a < 64
-  entry-below e = let h = entry-in t code a b g e in omega (arith, r .«entry_count»)
-
-  pub start-below : code ≡ START → (a < 16) × (b < 64)
-  start-below e = let h = start-in t code a b g e in (omega (arith, h .0, r .«machine_count»), omega (arith, h .1, r .«entry_count»))
+-- so the numbers of machines are within the arrays
+pub machines-below : (t : Table) → Ready t → (code a b : ℕ) → indicesInRange t code a b ≡ true → twoMachines code ≡ true → (a < 16) × (b < 16)
+machines-below t r code a b g e =
+    let h = machines-in t code a b g e in (omega (arith, h .0, r .«machine_count»), omega (arith, h .1, r .«machine_count»))

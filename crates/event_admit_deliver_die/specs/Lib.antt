@@ -1,1 +1,2 @@
 pub mod AdmitDeliverDie
+pub mod AdmitDeliverDieParts

@@ -1,72 +1,66 @@
-// Events 1, 3 and 6 on a table that passed check 9, for machine and entry numbers in range: Admit, Deliver, Die. Steal and Notice are crates of their
-// own, Start and Done the crate `event_start_done`.
-// An event is a number, by the chain of its refusals in document 01's order, and the table after it where that number is 0. A run asks for the one
-// and then the other, so that a table is not handed back beside each number.
+// Events 1, 3 and 6: Admit, Deliver, Die. Steal and Notice are crates of their own, Start and Done the crate `event_start_done`.
+// An event is a number, by the chain of its refusals in document 01's order, and what it makes where that number is 0: a change of the table's parts.
+// Deliver's change is the handler's (crate `handler`); Die changes more than parts, and takes a table that passed check 9 by value.
 ghost use mathlib.Core.Path.{_≡_};
 ghost use Prim.Native.Nat.{_<_, _≤_};
-ghost use Rattle.table.specs.Messages.{oldest};
-ghost use Rattle.table.specs.Needs.{Ready};
-ghost use Rattle.event_admit_deliver_die.specs.AdmitDeliverDie.{admitted, admitOf, delivered, deliverOf, died, dieOf};
+ghost use Rattle.event_admit_deliver_die.specs.AdmitDeliverDie.{died};
+ghost use Rattle.event_admit_deliver_die.specs.AdmitDeliverDieParts.{admitNumber, admitChange, deliverNumber, dieNumber};
+use protocol_change::Change;
+use protocol_change::Parts;
+use table::Job;
 use table::Machine;
 use table::Table;
 
-// Event 1: its number.
-pub fn admit_number(t: Table, a: u8) -> u8
-    requires { ⌜ a < 64 ⌝ }
-    ensures { λ r. ⌜ r ≡ admitOf t a .number ⌝ }
+// Event 1: its number, for job v.
+pub fn admit_number(v: Job) -> u8
+    ensures { λ r. ⌜ r ≡ admitNumber v ⌝ }
 {
-    let jobs = t.jobs;
-    let job = jobs[a as usize];
-    if job.state != table::NOT_ADMITTED {
+    if v.state != table::NOT_ADMITTED {
         return 13;
     }
     0
 }
 
-// Job a becomes open, replica 1, on 0, and enters the root's pool.
-pub fn admitted(t: Table, a: u8) -> Table
-    requires { ⌜ a < 64 ⌝ }
-    ensures { λ r. ⌜ r ≡ admitted t a ⌝ }
+// The job becomes open, replica 1, on 0, and enters the root's pool.
+pub fn admitted(p: Parts) -> Change
+    ensures { λ r. ⌜ r ≡ admitChange p ⌝ }
 {
-    protocol_pools::open_on_root(t, a as usize, 1)
+    let job = Job {
+        state: table::OPEN,
+        replica: 1,
+        moving: 0,
+        holder: 0,
+        thief: 0,
+        price: 0,
+    };
+    let machine = p.machine;
+    let cell = protocol_pools::larger(p.cell, 1);
+    let sent = table::NO_MESSAGE;
+    Change {
+        job,
+        machine,
+        cell,
+        sent,
+    }
 }
 
-// Event 3: its number.
-pub fn deliver_number(t: Table, a: u8, b: u8) -> u8
-    requires { ⌜ t .«in_flight» ≤ 128 ⌝ }
-    ensures { λ r. ⌜ r ≡ deliverOf t a b .number ⌝ }
+// Event 3: its number, for the number of messages in flight and the slot of the oldest from a to b, which is that number where there is none.
+pub fn deliver_number(used: usize, slot: usize) -> u8
+    ensures { λ r. ⌜ r ≡ deliverNumber used slot ⌝ }
 {
-    let slot = protocol_messages::oldest(t, a, b);
-    let n = t.in_flight as usize;
-    if n <= slot {
+    if used <= slot {
         return 15;
     }
     0
 }
 
-// The oldest message from a to b is taken off and handled by b.
-pub fn delivered(t: Table, a: u8, b: u8) -> Table
-    requires { ⌜ Ready t ⌝ }
-    requires { ⌜ oldest t a b < t .«in_flight» ⌝ }
-    ensures { λ r. ⌜ r ≡ delivered t (oldest t a b) ⌝ }
-{
-    let k = protocol_messages::oldest(t, a, b);
-    let slots = t.messages;
-    let m = slots[k];
-    let u = protocol_messages::remove_at(t, k);
-    handler::handle(u, m)
-}
-
-// Event 6: its number.
-pub fn die_number(t: Table, a: u8) -> u8
-    requires { ⌜ a < 16 ⌝ }
-    ensures { λ r. ⌜ r ≡ dieOf t a .number ⌝ }
+// Event 6: its number, for machine a, which is n.
+pub fn die_number(a: u8, n: Machine) -> u8
+    ensures { λ r. ⌜ r ≡ dieNumber a n ⌝ }
 {
     if a == 0 {
         return 20;
     }
-    let machines = t.machines;
-    let n = machines[a as usize];
     if n.alive != 1 {
         return 12;
     }

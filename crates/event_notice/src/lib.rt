@@ -3,8 +3,10 @@ ghost use mathlib.Core.Path.{_≡_};
 ghost use Prim.Native.Nat.{ℕ, _<_, _≤_};
 ghost use Rattle.table.specs.Views.{jobAt, machineAt};
 ghost use Rattle.table.specs.Needs.{Ready};
-ghost use Rattle.event_notice.specs.Notice.{informed, clearWait, returnReserved, noticeLocal, affected, reissue, noticed, noticeOf};
+ghost use Rattle.event_notice.specs.Notice.{informed, clearWait, returnReserved, noticeLocal, affected, reissue, noticed};
+ghost use Rattle.event_notice.specs.NoticeParts.{noticeNumber};
 use table::Job;
+use table::Machine;
 use table::Table;
 
 // a is told that b is dead, and undelivered messages from b to a are dropped.
@@ -95,21 +97,16 @@ pub fn noticed(t: Table, a: u8, b: u8) -> Table
     u
 }
 
-// Event 7: its number.
-pub fn notice_number(t: Table, a: u8, b: u8) -> u8
-    requires { ⌜ (a < 16) × (b < 16) ⌝ }
-    ensures { λ r. ⌜ r ≡ noticeOf t a b .number ⌝ }
+// Its number, for machine a, which is n, and machine b, which is d, and whether a was told that b is dead.
+pub fn notice_number(n: Machine, d: Machine, told: u8) -> u8
+    ensures { λ r. ⌜ r ≡ noticeNumber n d told ⌝ }
 {
-    let machines = t.machines;
-    let n = machines[a as usize];
     if n.alive != 1 {
         return 12;
     }
-    let d = machines[b as usize];
     if d.alive == 1 {
         return 21;
     }
-    let told = table::told_at(t, a as usize, b as usize);
     if told != 0 {
         return 22;
     }

@@ -1,1 +1,2 @@
 pub mod StartDone
+pub mod StartDoneParts

@@ -1,19 +1,17 @@
-// Event 2 on a table that passed check 9, for machine numbers in range: its number, by its refusals in document 01's order, and the table that it
-// makes where that number is 0.
+// Event 2 by the parts of a table that it looks at: its number, by its refusals in document 01's order, and the change that it makes where that
+// number is 0.
 ghost use mathlib.Core.Path.{_≡_};
 ghost use Prim.Native.Nat.{_<_};
-ghost use Rattle.table.specs.Needs.{RoomFor};
-ghost use Rattle.event_steal.specs.Steal.{stolen, stealOf};
+ghost use Rattle.event_steal.specs.StealParts.{stealNumber, stealChange};
+use protocol_change::Change;
+use protocol_change::Parts;
+use table::Machine;
 use table::Message;
-use table::Table;
 
-// Event 2: its number.
-pub fn steal_number(t: Table, a: u8, b: u8) -> u8
-    requires { ⌜ (a < 16) × (b < 16) ⌝ }
-    ensures { λ r. ⌜ r ≡ stealOf t a b .number ⌝ }
+// Its number, for thief a, which is n, and victim b: whether a was told that b is dead, and how many messages are in flight.
+pub fn steal_number(n: Machine, told: u8, used: u8, a: u8, b: u8) -> u8
+    ensures { λ r. ⌜ r ≡ stealNumber n told used a b ⌝ }
 {
-    let machines = t.machines;
-    let n = machines[a as usize];
     if n.alive != 1 {
         return 12;
     }
@@ -23,11 +21,9 @@ pub fn steal_number(t: Table, a: u8, b: u8) -> u8
     if n.waits != 0 {
         return 14;
     }
-    let told = table::told_at(t, a as usize, b as usize);
     if told != 0 {
         return 14;
     }
-    let used = t.in_flight;
     if 128 <= used {
         return 16;
     }
@@ -35,25 +31,26 @@ pub fn steal_number(t: Table, a: u8, b: u8) -> u8
 }
 
 // Thief a sends FISH to b and waits on b.
-pub fn stolen(t: Table, a: u8, b: u8) -> Table
-    requires { ⌜ (a < 16) × (b < 16) ⌝ }
-    requires { ⌜ RoomFor t b ⌝ }
-    ensures { λ r. ⌜ r ≡ stolen t a b ⌝ }
+pub fn stolen(p: Parts, a: u8, b: u8) -> Change
+    requires { ⌜ b < 255 ⌝ }
+    ensures { λ r. ⌜ r ≡ stealChange p a b ⌝ }
 {
-    let mut u = t;
-    let mut n = u.machines[a as usize];
-    n.waits = b + 1;
-    u.machines[a as usize] = n;
-    protocol_messages::send(
-        u,
-        Message {
-            kind: table::FISH,
-            from: a,
-            to: b,
-            job: 0,
-            replica: 0,
-            thief: 0,
-            price: 0,
-        },
-    )
+    let job = p.job;
+    let mut machine = p.machine;
+    machine.waits = b + 1;
+    let sent = Message {
+        kind: table::FISH,
+        from: a,
+        to: b,
+        job: 0,
+        replica: 0,
+        thief: 0,
+        price: 0,
+    };
+    Change {
+        job,
+        machine,
+        cell: p.cell,
+        sent,
+    }
 }

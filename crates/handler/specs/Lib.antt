@@ -1,1 +1,2 @@
 pub mod Handler
+pub mod HandlerParts

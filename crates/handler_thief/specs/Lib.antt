@@ -1,1 +1,2 @@
 pub mod Thief
+pub mod ThiefParts

@@ -1,46 +1,48 @@
-// What a thief does with the answer to its FISH: SCHEDULE or NOWORK. Each function equals the definition of its name in specs/Thief.antt.
-// The caller has taken the message off, so that a slot is free for the ACK of a SCHEDULE.
+// What a thief does with the answer to its FISH: SCHEDULE or NOWORK. Each function equals the definition of its change in specs/ThiefParts.antt;
+// made on a table, the change is what specs/Thief.antt says (proofs/Made.antt).
 ghost use mathlib.Core.Path.{_≡_};
-ghost use Rattle.table.specs.Needs.{Room, Within};
-ghost use Rattle.handler_thief.specs.Thief.{onSchedule, onNoWork};
+ghost use Rattle.handler_thief.specs.ThiefParts.{scheduleChange, noWorkChange};
+use protocol_change::Change;
+use protocol_change::Parts;
 use table::Message;
-use table::Table;
 
 // The copy enters the pool, waiting ends, and the root is told.
-pub fn on_schedule(t: Table, m: Message) -> Table
-    requires { ⌜ Room t ⌝ }
-    requires { ⌜ Within m ⌝ }
-    ensures { λ r. ⌜ r ≡ onSchedule t m ⌝ }
+pub fn on_schedule(p: Parts, m: Message) -> Change
+    ensures { λ r. ⌜ r ≡ scheduleChange p m ⌝ }
 {
-    let b = m.to as usize;
-    let machines = t.machines;
-    let mut thief = machines[b];
+    let job = p.job;
+    let mut thief = p.machine;
     thief.waits = 0;
-    let mut u = protocol_pools::enter(t, b, m.job as usize, m.replica);
-    u.machines[b] = thief;
-    protocol_messages::send(
-        u,
-        Message {
-            kind: table::ACK,
-            from: m.to,
-            to: 0,
-            job: m.job,
-            replica: m.replica,
-            thief: 0,
-            price: 0,
-        },
-    )
+    let cell = protocol_pools::larger(p.cell, m.replica);
+    let sent = Message {
+        kind: table::ACK,
+        from: m.to,
+        to: 0,
+        job: m.job,
+        replica: m.replica,
+        thief: 0,
+        price: 0,
+    };
+    Change {
+        job,
+        machine: thief,
+        cell,
+        sent,
+    }
 }
 
 // Waiting ends.
-pub fn on_no_work(t: Table, m: Message) -> Table
-    requires { ⌜ Within m ⌝ }
-    ensures { λ r. ⌜ r ≡ onNoWork t m ⌝ }
+pub fn on_no_work(p: Parts) -> Change
+    ensures { λ r. ⌜ r ≡ noWorkChange p ⌝ }
 {
-    let b = m.to as usize;
-    let mut u = t;
-    let mut idle = u.machines[b];
+    let job = p.job;
+    let mut idle = p.machine;
     idle.waits = 0;
-    u.machines[b] = idle;
-    u
+    let sent = table::NO_MESSAGE;
+    Change {
+        job,
+        machine: idle,
+        cell: p.cell,
+        sent,
+    }
 }

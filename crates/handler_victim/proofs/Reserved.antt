@@ -9,9 +9,18 @@ use Rattle.lists.proofs.Cases.{and-left, and-right}
 use Rattle.table.specs.declared.Machine.{Machine}
 use Rattle.table.specs.Parts.{copyIs, reserves}
 
-pub reserves-job : (n : Machine) (j r th : ℕ) → reserves n j r th ≡ true → n .«reserved_job» ≡ j
-unfolding reserves copyIs
-reserves-job n j r th e =
-    let copy = and-right (not (eqb (n .«reserved_replica») 0))
-    (eqb (n .«reserved_job») j && (eqb (n .«reserved_replica») r && eqb (n .«reserved_thief») th)) e in
-    eqb-true _ _ (and-left (eqb (n .«reserved_job») j) (eqb (n .«reserved_replica») r && eqb (n .«reserved_thief») th) copy)
+module _ (n : Machine) (j r th : ℕ) (e : reserves n j r th ≡ true) where
+  copy : copyIs (n .«reserved_job») (n .«reserved_replica») (n .«reserved_thief») j r th ≡ true
+  unfolding reserves
+  copy = and-right (not (eqb (n .«reserved_replica») 0)) (copyIs (n .«reserved_job») (n .«reserved_replica») (n .«reserved_thief») j r th) e
+
+  pub reserves-job : n .«reserved_job» ≡ j
+  unfolding copyIs
+  reserves-job = eqb-true _ _ (and-left (eqb (n .«reserved_job») j) (eqb (n .«reserved_replica») r && eqb (n .«reserved_thief») th) copy)
+
+  pub reserves-replica : n .«reserved_replica» ≡ r
+  unfolding copyIs
+  reserves-replica =
+      eqb-true _ _
+      (and-left (eqb (n .«reserved_replica») r) (eqb (n .«reserved_thief») th)
+      (and-right (eqb (n .«reserved_job») j) (eqb (n .«reserved_replica») r && eqb (n .«reserved_thief») th) copy))

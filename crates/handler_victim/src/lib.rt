@@ -1,160 +1,163 @@
 // What a victim does with a message: FISH from a thief, and the root's answers AUTH, DENIED and OBSOLETE. Each function equals the definition of its
-// name in specs/Victim.antt. The caller has taken the message off, so that a slot is free for the one message that a handler sends.
+// change in specs/VictimParts.antt; made on a table, the change is what specs/Victim.antt says (proofs/Made.antt).
 ghost use mathlib.Core.Path.{_≡_};
-ghost use Prim.Native.Nat.{_<_};
-ghost use Rattle.table.specs.Views.{machineAt, withMachine};
 ghost use Rattle.table.specs.Parts.{release, reserves};
-ghost use Rattle.table.specs.Needs.{Room, Within};
-ghost use Rattle.handler_victim.specs.Victim.{noWork, grant, onFish, onAuth, onDenied, onObsolete};
+ghost use Rattle.handler_victim.specs.VictimParts.{
+  noWorkFrom,
+  fishJob,
+  fishChange,
+  authChange,
+  deniedChange,
+  obsoleteChange,
+};
+use protocol_change::Change;
+use protocol_change::Parts;
 use table::Machine;
 use table::Message;
-use table::Table;
 
-// Machine b sends th NOWORK.
-fn no_work(t: Table, b: u8, th: u8) -> Table
-    requires { ⌜ Room t ⌝ }
-    requires { ⌜ th < 16 ⌝ }
-    ensures { λ r. ⌜ r ≡ noWork t b th ⌝ }
+// The NOWORK of one machine to another.
+fn no_work(from: u8, to: u8) -> Message
+    ensures { λ r. ⌜ r ≡ noWorkFrom from to ⌝ }
 {
-    protocol_messages::send(
-        t,
-        Message {
-            kind: table::NOWORK,
-            from: b,
-            to: th,
-            job: 0,
-            replica: 0,
-            thief: 0,
-            price: 0,
-        },
-    )
+    Message {
+        kind: table::NOWORK,
+        from,
+        to,
+        job: 0,
+        replica: 0,
+        thief: 0,
+        price: 0,
+    }
 }
 
-// Job j leaves the pool of b and becomes the copy reserved for th, and the root is asked.
-fn grant(t: Table, b: u8, th: u8, j: usize) -> Table
-    requires { ⌜ Room t ⌝ }
-    requires { ⌜ (b < 16) × (j < 64) ⌝ }
-    ensures { λ r. ⌜ r ≡ grant t b th j ⌝ }
+// The job whose cell a FISH looks at: the lowest, 0 where there is none.
+pub fn fish_job(low: usize) -> usize
+    ensures { λ r. ⌜ r ≡ fishJob low ⌝ }
 {
-    let mut u = t;
-    let i = (b as usize) * 64 + j;
-    let r = u.pools[i];
-    let mut n = u.machines[b as usize];
-    n.reserved_job = j as u8;
-    n.reserved_replica = r;
-    n.reserved_thief = th;
-    u.pools[i] = 0;
-    u.machines[b as usize] = n;
-    protocol_messages::send(
-        u,
-        Message {
-            kind: table::REQ,
-            from: b,
-            to: 0,
-            job: j as u8,
-            replica: r,
-            thief: th,
-            price: 0,
-        },
-    )
+    if 64 <= low {
+        return 0;
+    }
+    low
 }
 
 // The lowest job of the pool is reserved for the thief, or the thief gets NOWORK.
-pub fn on_fish(t: Table, m: Message) -> Table
-    requires { ⌜ Room t ⌝ }
-    requires { ⌜ Within m ⌝ }
-    ensures { λ r. ⌜ r ≡ onFish t m ⌝ }
+pub fn on_fish(p: Parts, m: Message, low: usize) -> Change
+    ensures { λ r. ⌜ r ≡ fishChange p m low ⌝ }
 {
-    let b = m.to as usize;
-    let machines = t.machines;
-    let n = machines[b];
-    if n.reserved_replica != 0 {
-        return no_work(t, m.to, m.from);
+    let job = p.job;
+    let mut machine = p.machine;
+    if (machine.reserved_replica != 0) | (64 <= low) {
+        let sent = no_work(m.to, m.from);
+        return Change {
+            job,
+            machine,
+            cell: p.cell,
+            sent,
+        };
     }
-    let j = protocol_pools::lowest(t, b);
-    if 64 <= j {
-        return no_work(t, m.to, m.from);
+    let lowest = low as u8;
+    machine.reserved_job = lowest;
+    machine.reserved_replica = p.cell;
+    machine.reserved_thief = m.from;
+    let sent = Message {
+        kind: table::REQ,
+        from: m.to,
+        to: 0,
+        job: lowest,
+        replica: p.cell,
+        thief: m.from,
+        price: 0,
+    };
+    Change {
+        job,
+        machine,
+        cell: 0,
+        sent,
     }
-    grant(t, m.to, m.from, j)
 }
 
-// Whether the reserved copy is (job j, replica r, thief th).
-fn reserves(n: Machine, j: u8, r: u8, th: u8) -> bool
-    ensures { λ b. ⌜ b ≡ reserves n j r th ⌝ }
+// Whether the reserved copy is the one that the message names.
+fn reserves(n: Machine, m: Message) -> bool
+    ensures { λ b. ⌜ b ≡ reserves n (m .job) (m .replica) (m .thief) ⌝ }
 {
     (n.reserved_replica != 0)
-        & ((n.reserved_job == j) & ((n.reserved_replica == r) & (n.reserved_thief == th)))
+        & ((n.reserved_job == m.job)
+            & ((n.reserved_replica == m.replica) & (n.reserved_thief == m.thief)))
 }
 
-// The reserved copy of machine b is gone.
-fn released(t: Table, b: usize) -> Table
-    requires { ⌜ b < 16 ⌝ }
-    ensures { λ r. ⌜ r ≡ withMachine t b (release (machineAt t b)) ⌝ }
+// The reserved copy of a machine is gone.
+fn released(n: Machine) -> Machine
+    ensures { λ r. ⌜ r ≡ release n ⌝ }
 {
-    let mut u = t;
-    let mut n = u.machines[b];
-    n.reserved_job = 0;
-    n.reserved_replica = 0;
-    n.reserved_thief = 0;
-    u.machines[b] = n;
-    u
+    let mut rest = n;
+    rest.reserved_job = 0;
+    rest.reserved_replica = 0;
+    rest.reserved_thief = 0;
+    rest
 }
 
 // The reserved copy goes to the thief, where it is the one that the message names.
-pub fn on_auth(t: Table, m: Message) -> Table
-    requires { ⌜ Room t ⌝ }
-    requires { ⌜ Within m ⌝ }
-    ensures { λ r. ⌜ r ≡ onAuth t m ⌝ }
+pub fn on_auth(p: Parts, m: Message) -> Change
+    ensures { λ r. ⌜ r ≡ authChange p m ⌝ }
 {
-    let b = m.to as usize;
-    let machines = t.machines;
-    let n = machines[b];
-    if reserves(n, m.job, m.replica, m.thief) {
-        let u = released(t, b);
-        return protocol_messages::send(
-            u,
-            Message {
-                kind: table::SCHEDULE,
-                from: m.to,
-                to: m.thief,
-                job: m.job,
-                replica: m.replica,
-                thief: 0,
-                price: 0,
-            },
-        );
+    let job = p.job;
+    let machine = p.machine;
+    if reserves(machine, m) {
+        let gone = released(machine);
+        let sent = Message {
+            kind: table::SCHEDULE,
+            from: m.to,
+            to: m.thief,
+            job: m.job,
+            replica: m.replica,
+            thief: 0,
+            price: 0,
+        };
+        return Change {
+            job,
+            machine: gone,
+            cell: p.cell,
+            sent,
+        };
     }
-    t
+    protocol_change::silent(p)
 }
 
 // The reserved copy returns to the pool, where it is the one that the message names.
-pub fn on_denied(t: Table, m: Message) -> Table
-    requires { ⌜ Room t ⌝ }
-    requires { ⌜ Within m ⌝ }
-    ensures { λ r. ⌜ r ≡ onDenied t m ⌝ }
+pub fn on_denied(p: Parts, m: Message) -> Change
+    ensures { λ r. ⌜ r ≡ deniedChange p m ⌝ }
 {
-    let b = m.to as usize;
-    let machines = t.machines;
-    let n = machines[b];
-    if reserves(n, m.job, m.replica, m.thief) {
-        let back = protocol_pools::returned(t, b);
-        return no_work(back, m.to, m.thief);
+    let job = p.job;
+    let machine = p.machine;
+    if reserves(machine, m) {
+        let back = released(machine);
+        let cell = protocol_pools::larger(p.cell, m.replica);
+        let refusal = no_work(m.to, m.thief);
+        return Change {
+            job,
+            machine: back,
+            cell,
+            sent: refusal,
+        };
     }
-    t
+    protocol_change::silent(p)
 }
 
 // The reserved copy is discarded, where it is the one that the message names.
-pub fn on_obsolete(t: Table, m: Message) -> Table
-    requires { ⌜ Room t ⌝ }
-    requires { ⌜ Within m ⌝ }
-    ensures { λ r. ⌜ r ≡ onObsolete t m ⌝ }
+pub fn on_obsolete(p: Parts, m: Message) -> Change
+    ensures { λ r. ⌜ r ≡ obsoleteChange p m ⌝ }
 {
-    let b = m.to as usize;
-    let machines = t.machines;
-    let n = machines[b];
-    if reserves(n, m.job, m.replica, m.thief) {
-        let rest = released(t, b);
-        return no_work(rest, m.to, m.thief);
+    let job = p.job;
+    let machine = p.machine;
+    if reserves(machine, m) {
+        let rest = released(machine);
+        let sent = no_work(m.to, m.thief);
+        return Change {
+            job,
+            machine: rest,
+            cell: p.cell,
+            sent,
+        };
     }
-    t
+    protocol_change::silent(p)
 }

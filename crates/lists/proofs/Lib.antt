@@ -6,3 +6,4 @@ pub mod Count
 pub mod Chains
 pub mod Lowest
 pub mod Slices
+pub mod Shift

@@ -1,20 +1,21 @@
--- The laws that a loop over indices uses, of `all`, `least`, `filter`, `padTo`, `without`, `upTo`, `tabulate` and `countTo`.
+-- The laws that a loop over indices uses, of `all`, `least`, `filter`, `padTo`, `upTo`, `tabulate` and `countTo`.
 -- Assumes nothing.
 use Prim.Native.Nat.{ℕ, zero, suc, _+_, _-_, _≤_, _<_}
 use mathlib.Core.Path.{_≡_, refl, sym, ap, _∙_, subst}
 use mathlib.Core.Logic.{⊎-elim}
-use mathlib.Core.Bool.{Bool, true, false, cond, true≢false}
-use mathlib.Core.List.{List, [], _∷_, _++_, append-nil, append-assoc}
+use mathlib.Core.Bool.{Bool, true, false, cond, _&&_, true≢false}
+use mathlib.Core.List.{List, [], _∷_, _++_, map, append-nil, append-assoc}
 use native.Mathlib.Nat.{le-of-suc-le-suc, not-suc-le-zero, eq-or-lt-of-le, le-refl, le-antisymm, sub-zero}
 use native.Mathlib.Numerals.{add-one}
 use native.Mathlib.Omega.{arith}
 use borrow.Author.Tests.{lt-ltb, le-ltb}
 use lib.Dec.{ltb}
-use lib.ListN.{length, getD, take, drop, set, replicate, length-take, length-append, length-replicate, length-drop, take-append-drop}
-use lib.ListN.{drop-of-length-le, List·getD-append, getD-replicate}
-use lib.Seq.{take-suc, drop-cons, set-append-seam, length-take-le, getD-append-add, getD-at, getD-drop, take-at, set-at, append-snoc, take-all}
+use lib.ListN.{length, getD, take, set, replicate, length-append, length-replicate}
+use lib.ListN.{List·getD-append, List·getD-map, getD-replicate, length-map}
+use lib.Seq.{take-suc, set-append-seam, getD-append-add, getD-at}
+use lib.Seq.{ext-getD}
 use Rattle.lists.proofs.Cases.{byEq}
-use Rattle.lists.specs.Scan.{all, least, filter, padTo, without, upTo, tabulate, countTo}
+use Rattle.lists.specs.Scan.{all, least, filter, padTo, upTo, tabulate, countTo}
 
 module _ (p : ℕ → Bool) where
   pub all-none : all p 0 ≡ true
@@ -24,6 +25,15 @@ module _ (p : ℕ → Bool) where
   pub all-more : (i : ℕ) → all p i ≡ true → p i ≡ true → all p (i + 1) ≡ true
   unfolding all
   all-more i e h = rw (add-one, e, h)
+
+  -- a turn of a loop that goes to the end: the test so far, and that of this index
+  pub all-next : (i : ℕ) (a b : Bool) → a ≡ all p i → b ≡ p i → (a && b) ≡ all p (i + 1)
+  unfolding all
+  all-next i a b e h = rw (add-one i, ← e, ← h) (go a)
+    where
+      go : (a : Bool) → (a && b) ≡ cond a b false
+      go true = refl
+      go false = refl
 
   pub all-fail : (n i : ℕ) → i < n → p i ≡ false → all p n ≡ false
   unfolding all
@@ -63,6 +73,10 @@ module _ (p : ℕ → Bool) where
   -- what a loop's last line returns
   pub all-end : (n i : ℕ) → n ≤ i → i ≤ n → all p i ≡ true → true ≡ all p n
   all-end n i a b e = sym (subst (λ (k : ℕ). all p k ≡ true) (le-antisymm b a) e)
+
+  -- the same of a loop that goes to the end and keeps the test so far
+  pub all-kept : (n i : ℕ) (b : Bool) → n ≤ i → i ≤ n → b ≡ all p i → b ≡ all p n
+  all-kept n i b l h e = e ∙ ap (all p) (le-antisymm h l)
 
   pub least-end : (n i : ℕ) → n ≤ i → i ≤ n → least p i ≡ i → i ≡ least p n
   least-end n i a b e = sym e ∙ ap (least p) (le-antisymm b a)
@@ -138,57 +152,6 @@ module _ {A : Type 0} (p : A → Bool) (ms : List A) (n : ℕ) (d : A) where
       let v = k .within in
       record { count = rw (filter-no p ms i d h e) (k .count); slots = rw (filter-no p ms i d h e) (k .slots); within = omega arith }
 
--- A loop that moves each element after the k-th down by one place, up to the place i: ms is the list so far.
-module _ {A : Type 0} (d : A) (k : ℕ) (l : List A) (h : k < length l) where
-  length-without : length (without k l) + 1 ≡ length l
-  unfolding without
-  length-without = simp (length-append, length-take, length-drop) (omega arith)
-
-  getD-without : (i : ℕ) → k ≤ i → getD (without k l) i d ≡ getD l (i + 1) d
-  unfolding without
-  getD-without i b =
-      let a : length (take k l) ≡ k = length-take-le k l (omega arith) in
-      let e : i ≡ length (take k l) + (i - k) = omega arith in
-      let s : suc k + (i - k) ≡ i + 1 = omega arith in
-      ap (λ (m : ℕ). getD (take k l ++ drop (suc k) l) m d) e
-      ∙ getD-append-add (take k l) (drop (suc k) l) (i - k) d
-      ∙ getD-drop (suc k) l (i - k) d
-      ∙ ap (λ (m : ℕ). getD l m d) s
-
-  abbrev pub Shifted : ℕ → List A → Type 0
-  Shifted i ms = ms ≡ take i (without k l) ++ drop i l
-
-  pub shift-none : Shifted k l
-  unfolding without
-  shift-none =
-      let a : length (take k l) ≡ k = length-take-le k l (omega arith) in
-      rw (take-at (take k l) (drop (suc k) l) k a, take-append-drop)
-
-  pub shift-more : (i : ℕ) (ms : List A) → Shifted i ms → k ≤ i → i + 1 < length l → Shifted (i + 1) (set ms i (getD ms (i + 1) d))
-  shift-more i ms e b c =
-      let n = length-without in
-      let a : length (take i (without k l)) ≡ i = length-take-le i (without k l) (omega arith) in
-      let v : getD ms (i + 1) d ≡ getD l (i + 1) d =
-      ap (λ (m : List A). getD m (i + 1) d) e
-      ∙ ap (λ (m : ℕ). getD (take i (without k l) ++ drop i l) (m + 1) d) (sym a)
-      ∙ getD-append-add (take i (without k l)) (drop i l) 1 d
-      ∙ getD-drop i l 1 d in
-      ap (λ (m : List A). set m i (getD ms (i + 1) d)) (e ∙ ap (λ (r : List A). take i (without k l) ++ r) (drop-cons l i d (omega arith)))
-      ∙ set-at (take i (without k l)) (getD l i d) (drop (suc i) l) (getD ms (i + 1) d) i a
-      ∙ ap (λ (x : A). take i (without k l) ++ x ∷ drop (suc i) l) (v ∙ sym (getD-without i b))
-      ∙ sym (append-snoc (take i (without k l)) (getD (without k l) i d) (drop (suc i) l))
-      ∙ ap (λ (r : List A). r ++ drop (suc i) l) (sym (take-suc (without k l) i d (omega arith)))
-      ∙ ap (λ (m : ℕ). take m (without k l) ++ drop m l) (sym (add-one i))
-
-  pub shift-end : (i : ℕ) (ms : List A) → Shifted i ms → i + 1 ≡ length l → set ms i d ≡ without k l ++ (d ∷ [])
-  shift-end i ms e c =
-      let n = length-without in
-      let a : length (take i (without k l)) ≡ i = length-take-le i (without k l) (omega arith) in
-      ap (λ (m : List A). set m i d) (e ∙ ap (λ (r : List A). take i (without k l) ++ r) (drop-cons l i d (omega arith)))
-      ∙ set-at (take i (without k l)) (getD l i d) (drop (suc i) l) d i a
-      ∙ ap (λ (r : List A). take i (without k l) ++ d ∷ r) (drop-of-length-le l {i = suc i} (omega arith))
-      ∙ ap (λ (r : List A). r ++ (d ∷ [])) (take-all i (without k l) (omega arith))
-
 -- A loop that does f at each index.
 module _ {A : Type 0} (f : ℕ → A → A) (x : A) where
   pub up-none : x ≡ upTo f 0 x
@@ -251,6 +214,30 @@ module _ {A : Type 0} (f : ℕ → A) (n : ℕ) (d : A) where
       ap (λ (j : ℕ). getD (tabulate f m ++ replicate (n - length (tabulate f m)) d) j b) e
       ∙ getD-append-add (tabulate f m) (replicate (n - length (tabulate f m)) d) (i - m) b
       ∙ getD-replicate (n - length (tabulate f m)) (i - m) d b (omega arith)
+
+-- A loop that fills the first of n slots with f of each element of l.
+pub tabulate-map : {A B : Type 0} (f : B → A) (l : List B) (d : B) → tabulate (λ i. f (getD l i d)) (length l) ≡ map f l
+tabulate-map {A} f l d =
+    let g : ℕ → A = λ i. f (getD l i d) in
+    let n = length-tabulate g 0 (f d) (length l) in
+    ext-getD (f d) (tabulate g (length l)) (map f l) (n ∙ sym (length-map l f))
+    (λ i h. tabulate-at g 0 (f d) (length l) i (f d) (omega arith) ∙ sym (List·getD-map f l i d))
+
+-- The slots past the last hold what is read where there is no slot.
+module _ {A : Type 0} (d : A) where
+  replicate-at : (m i : ℕ) → getD (replicate m d) i d ≡ d
+  replicate-at zero i = refl
+  replicate-at (suc m) zero = refl
+  replicate-at (suc m) (suc i) = replicate-at m i
+
+  append-at : (m : ℕ) (xs : List A) (i : ℕ) → getD (xs ++ replicate m d) i d ≡ getD xs i d
+  append-at m [] i = replicate-at m i
+  append-at m (x ∷ xs) zero = refl
+  append-at m (x ∷ xs) (suc i) = append-at m xs i
+
+  pub pad-default : (n : ℕ) (xs : List A) (i : ℕ) → getD (padTo n d xs) i d ≡ getD xs i d
+  unfolding padTo
+  pad-default n xs = append-at (n - length xs) xs
 
 -- A loop that counts the indices that pass p.
 module _ (p : ℕ → Bool) where

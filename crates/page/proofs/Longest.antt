@@ -25,7 +25,8 @@ use Rattle.table_opening.specs.Opening.{openOf}
 use Rattle.table_opening.proofs.Counts as counts
 use Rattle.dispatcher.specs.Step.{runOf, answersOf}
 use Rattle.dispatcher.proofs.Preserved.{run-ok, run-sized}
-use Rattle.page_run.specs.Run.{bytesMost, refusalsMost, eventAt, eventCount, eventsIn, refusals}
+use Rattle.dispatcher.specs.Events.{bytesMost, eventAt, eventCount, eventsIn}
+use Rattle.page_run.specs.Run.{refusalsMost, refusals}
 use Rattle.page_run.proofs.Turns.{refusals-most}
 use Rattle.page.specs.Page.{eventsOf, entriesText, runText, textFrom, pageOf, entriesMost, longest}
 use Rattle.table_opening.proofs.Shown.{opened-number}

@@ -21,7 +21,8 @@ use Rattle.table_opening.specs.Opening.{freshOf, openOf}
 use Rattle.table_opening.proofs.Shown.{opened-number, opened-table}
 use Rattle.dispatcher.specs.Step.{runOf, answersOf}
 use Rattle.page_run.specs.declared.Ran.{Ran}
-use Rattle.page_run.specs.Run.{bytesMost, eventsIn, refusals, Listed}
+use Rattle.dispatcher.specs.Events.{bytesMost, eventsIn}
+use Rattle.page_run.specs.Run.{refusals, Listed}
 use Rattle.page.specs.Page.{eventsOf, entriesText, runText, textFrom, pageOf, longest, bufferOf, printedOf}
 use Rattle.page.proofs.Longest.{lineOf, page-most}
 

@@ -13,7 +13,8 @@ use Rattle.table.specs.Views.{jobAt}
 use Rattle.table_opening.specs.Opening.{openOf}
 use Rattle.dispatcher.specs.Step.{runOf, answersOf}
 use Rattle.claims.specs.Claims.{Demand3}
-use Rattle.page_run.specs.Run.{bytesMost, refusalsMost, eventsIn, refusals}
+use Rattle.dispatcher.specs.Events.{bytesMost, eventsIn}
+use Rattle.page_run.specs.Run.{refusalsMost, refusals}
 use Rattle.page.specs.declared.Printed.{Printed}
 
 -- "events.bin (at most 60,000 bytes; later ones are not read)"

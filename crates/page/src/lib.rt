@@ -6,7 +6,7 @@ ghost use lib.ListN.{length, take};
 ghost use Rattle.text.specs.Text.{Written};
 ghost use Rattle.book.specs.Book.{bookVerdict};
 ghost use Rattle.validity.specs.Validity.{tableOk};
-ghost use Rattle.page_run.specs.Run.{bytesMost, eventsIn};
+ghost use Rattle.dispatcher.specs.Events.{bytesMost, eventsIn};
 ghost use Rattle.page.specs.Page.{eventsOf, entriesText, textFrom, pageOf, entriesMost, longest, bufferOf, printedOf, Reported};
 use table::Table;
 

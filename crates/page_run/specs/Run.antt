@@ -1,35 +1,17 @@
--- Document 01, "A run" and "The program's page": the events of a file, and the lines of those that are refused. Definitions only.
-use Prim.Native.Nat.{ℕ, _+_, _*_, _/_}
+-- Document 01, "The program's page": the lines of the events that are refused. Definitions only.
+use Prim.Native.Nat.{ℕ, _+_, _*_}
 use mathlib.Core.Path.{_≡_}
 use mathlib.Core.Bool.{cond}
 use mathlib.Core.List.{List, [], _∷_, _++_}
 use lib.Dec.{eqb}
-use lib.ListN.{length, take, drop}
-use Rattle.lists.specs.Scan.{tabulate}
 use Rattle.text.specs.Text.{Written}
 use Rattle.page_lines.specs.Lines.{eventRefusedLine}
 use Rattle.table.specs.declared.Table.{Table}
 use Rattle.page_run.specs.declared.Ran.{Ran}
 
--- "Events are three bytes": those of event k, counted from 0; the last event has fewer where the bytes end before it does
-unfoldable pub eventAt : List ℕ → ℕ → List ℕ
-eventAt s k = take 3 (drop (3 * k) s)
-
--- "events.bin (at most 60,000 bytes; later ones are not read)"
-abbrev pub bytesMost : ℕ
-bytesMost = 60000
-
 -- the lines of 20,000 refused events, at most 23 bytes each
 abbrev pub refusalsMost : ℕ
 refusalsMost = 20000 * 23
-
--- how many events there are, one of too few bytes included
-abbrev pub eventCount : List ℕ → ℕ
-eventCount s = (length s + 2) / 3
-
--- "Refused events stay in the list, those of too few bytes included."
-unfoldable pub eventsIn : List ℕ → List (List ℕ)
-eventsIn s = tabulate (eventAt s) (eventCount s)
 
 -- an accepted event, answered 0, prints nothing
 unfoldable pub refusal : ℕ → ℕ → List ℕ

@@ -1,72 +1,52 @@
-// Messages in flight: sending one, finding the oldest of a channel, taking one off, dropping some.
-// Each public function equals the definition of its name in the crate `table`; `drop_to` and `drop_from` equal its `keepMessages`.
+// Messages in flight. In a run they are changed in place, one slot at a time (crate `dispatcher`): the oldest message of a channel is found by
+// `in_channel`, a message is taken off by moving those after it up as far as `kept`, and what is sent goes to the slot there, as `stored` and `counted`
+// say. A death and a notice drop messages: `drop_to` and `drop_from` equal `keepMessages` of the crate `table`.
 ghost use mathlib.Core.Path.{_≡_};
-ghost use Prim.Native.Nat.{_<_, _≤_};
-ghost use Rattle.table.specs.Messages.{inChannel, send, oldest, removeAt, keepMessages, notTo, notFrom};
-ghost use Rattle.table.specs.Needs.{RoomFor};
+ghost use Prim.Native.Nat.{_≤_};
+ghost use Rattle.table.specs.Messages.{inChannel, keepMessages, notTo, notFrom};
+ghost use Rattle.protocol_messages.specs.InPlace.{kept, stored, counted};
 ghost use Rattle.protocol_messages.specs.NotDropped.{notDropped};
+use table::Machine;
 use table::Message;
 use table::Table;
 
-// "A message to a dead machine is stored nowhere."
-pub fn send(t: Table, m: Message) -> Table
-    requires { ⌜ RoomFor t (m .to) ⌝ }
-    requires { ⌜ m .to < 16 ⌝ }
-    ensures { λ r. ⌜ r ≡ send t m ⌝ }
-{
-    let mut u = t;
-    let to = m.to as usize;
-    let machine = u.machines[to];
-    if machine.alive == 1 {
-        let n = u.in_flight as usize;
-        u.messages[n] = m;
-        u.in_flight = u.in_flight + 1;
-    }
-    u
-}
-
 // Whether a message goes from a to b.
-fn in_channel(m: Message, a: u8, b: u8) -> bool
+pub fn in_channel(m: Message, a: u8, b: u8) -> bool
     ensures { λ r. ⌜ r ≡ inChannel a b m ⌝ }
 {
     (m.from == a) & (m.to == b)
 }
 
-// The slot of the oldest message from a to b, or the number in flight where there is none.
-pub fn oldest(t: Table, a: u8, b: u8) -> usize
-    requires { ⌜ t .«in_flight» ≤ 128 ⌝ }
-    ensures { λ r. ⌜ r ≡ oldest t a b ⌝ }
+// How many of the messages in flight stay where the one in a slot is taken off. There is none in a slot past them.
+pub fn kept(slot: usize, used: usize) -> usize
+    ensures { λ r. ⌜ r ≡ kept slot used ⌝ }
 {
-    let n = t.in_flight as usize;
-    let messages = t.messages;
-    let mut i: usize = 0;
-    while i < n {
-        let m = messages[i];
-        if in_channel(m, a, b) {
-            return i;
-        }
-        i += 1;
+    if slot < used {
+        return used - 1;
     }
-    i
+    used
 }
 
-// The message in slot k is taken off: those after it move up by one, and the last slot is empty.
-pub fn remove_at(t: Table, k: usize) -> Table
-    requires { ⌜ k < 128 ⌝ }
-    requires { ⌜ 0 < t .«in_flight» ⌝ }
-    ensures { λ r. ⌜ r ≡ removeAt t k ⌝ }
+// What is stored of a message to a machine: "A message to a dead machine is stored nowhere."
+pub fn stored(m: Message, to: Machine) -> Message
+    ensures { λ r. ⌜ r ≡ stored m to ⌝ }
 {
-    let mut ms = t.messages;
-    let mut i = k;
-    while i < 127 {
-        ms[i] = ms[i + 1];
-        i += 1;
+    if (m.kind != 0) & (to.alive == 1) {
+        return m;
     }
-    ms[127] = table::NO_MESSAGE;
-    let mut u = t;
-    u.messages = ms;
-    u.in_flight = t.in_flight - 1;
-    u
+    table::NO_MESSAGE
+}
+
+// How many are in flight with what is stored.
+pub fn counted(keep: usize, m: Message) -> u8
+    requires { ⌜ keep ≤ 128 ⌝ }
+    ensures { λ r. ⌜ r ≡ counted keep m ⌝ }
+{
+    let n = keep as u8;
+    if m.kind != 0 {
+        return n + 1;
+    }
+    n
 }
 
 // Whether a message stays where those to a machine are dropped: those from one machine, or from any.

@@ -1,14 +1,17 @@
 // A machine's pool: a copy enters, the lowest job, the reserved copy returns, the pool is cleared; a job opened on the root.
-// Each public function equals the definition of its name in the crate `table`; `open_on_root` equals its `enter` after `withJob`.
+// Each public function equals the definition of its name in the crate `table`; `open_on_root` equals its `enter` after `withJob`, and `lowest`, which
+// is lent the pools, the definition in specs/Lowest.antt.
 ghost use mathlib.Core.Path.{_≡_};
 ghost use Prim.Native.Nat.{_<_, max};
 ghost use Rattle.table.specs.Views.{machineAt, withJob};
-ghost use Rattle.table.specs.Pools.{enter, lowest, clearPool, returned};
+ghost use Rattle.table.specs.Pools.{enter, clearPool, returned};
 ghost use Rattle.table.specs.Parts.{opened};
+ghost use Rattle.protocol_pools.specs.Lowest.{lowestIn};
 use table::Job;
 use table::Table;
 
-fn larger(a: u8, b: u8) -> u8
+// The larger of two replica numbers.
+pub fn larger(a: u8, b: u8) -> u8
     ensures { λ r. ⌜ r ≡ max a b ⌝ }
 {
     if a <= b {
@@ -18,7 +21,7 @@ fn larger(a: u8, b: u8) -> u8
 }
 
 // "Adding a copy to a pool keeps the larger replica number."
-pub fn enter(t: Table, m: usize, j: usize, r: u8) -> Table
+fn enter(t: Table, m: usize, j: usize, r: u8) -> Table
     requires { ⌜ (m < 16) × (j < 64) ⌝ }
     ensures { λ u. ⌜ u ≡ enter t m j r ⌝ }
 {
@@ -48,12 +51,11 @@ pub fn open_on_root(t: Table, j: usize, r: u8) -> Table
 }
 
 // The lowest job of machine m's pool, or 64 where it is empty.
-pub fn lowest(t: Table, m: usize) -> usize
+pub fn lowest(pools: &[u8; 1024], m: usize) -> usize
     requires { ⌜ m < 16 ⌝ }
-    ensures { λ r. ⌜ r ≡ lowest t m ⌝ }
+    ensures { λ r. ⌜ r ≡ lowestIn (now (pools .entry)) m ⌝ }
 {
     let base = m * 64;
-    let pools = t.pools;
     let mut j: usize = 0;
     while j < 64 {
         let x = pools[base + j];

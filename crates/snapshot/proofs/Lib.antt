@@ -1,1 +1,4 @@
 pub mod Answers
+pub mod Parts
+pub mod Same
+pub mod Changes

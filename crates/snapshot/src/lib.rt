@@ -1,5 +1,6 @@
 // A snapshot, a table that is kept as bytes between calls: opened from a book, checked, and stepped by one event, each with document 01's number.
 ghost use mathlib.Core.Path.{_≡_};
+ghost use Prim.Native.Nat.{_≤_};
 ghost use Rattle.snapshot.specs.Snapshot.{checkOf, stepNumber, stepBytes, openNumber, openBytes};
 
 // 0 for the bytes of a table that passes check 9, else 9.
@@ -15,7 +16,18 @@ pub fn check(table: &[u8]) -> u8
     0
 }
 
-// One event on a snapshot: its number, and the bytes of the table after it where the number is 0.
+// How many slots an event may change, of those in flight before it and after it.
+fn slots(before: u8, after: u8) -> usize
+    requires { ⌜ (before ≤ 128) × (after ≤ 128) ⌝ }
+    ensures { λ r. ⌜ (r ≤ 128) × (before ≤ r) × (after ≤ r) ⌝ }
+{
+    if before < after {
+        return after as usize;
+    }
+    before as usize
+}
+
+// One event on a snapshot: its number, and the bytes of the table after it where the number is 0. What no event changes is not written again.
 pub fn step(table: &mut [u8], event: &[u8]) -> u8
     ensures { λ r. ⌜ r ≡ stepNumber (now (table .entry)) (now (event .entry)) ⌝ }
     ensures { λ _. ⌜ now (table .exit) ≡ stepBytes (now (table .entry)) (now (event .entry)) ⌝ }
@@ -23,13 +35,21 @@ pub fn step(table: &mut [u8], event: &[u8]) -> u8
     if !snapshot_read::decodable(&table[..]) {
         return 9;
     }
-    let answer = dispatcher::step(snapshot_read::decode(&table[..]), event);
-    let number = answer.number;
+    let t = snapshot_read::decode(&table[..]);
+    if !validity::table_ok(t) {
+        return 9;
+    }
+    if event.len() < 3 {
+        return 10;
+    }
+    let mut numbers = [0u8; 1];
+    let after = dispatcher::run(t, &event[0..3], &mut numbers);
+    let number = numbers[0];
     if number != 0 {
         return number;
     }
-    let after = answer.table;
-    snapshot_write::encode(after, table);
+    let n = slots(t.in_flight, after.in_flight);
+    snapshot_write::put_changes(after, n, table);
     0
 }
 

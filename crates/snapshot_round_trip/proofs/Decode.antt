@@ -19,7 +19,8 @@ use Rattle.snapshot_write.specs.Bytes.{machineStateBytes, flightBytes, encode}
 use Rattle.snapshot_write.proofs.Lengths.{length-bond, length-job, length-machine, length-message, length-bonds, length-machines, length-entries}
 use Rattle.snapshot_write.proofs.Lengths.{length-machine-state, length-bytes}
 use Rattle.snapshot_round_trip.specs.RoundTrip.{Represents}
-use Rattle.snapshot_round_trip.proofs.Starts.{Starts, front, behind, byte, first, element, list-is}
+use Rattle.snapshot.proofs.Parts.{list-is}
+use Rattle.snapshot_round_trip.proofs.Starts.{Starts, front, behind, byte, first, element}
 use Rattle.snapshot_round_trip.proofs.Elements.{RatesFit, bond-again, bond-decodable, job-again, machine-again, message-again}
 
 -- a table as a program holds it: each list has its array's length, and each rate is a number of binary64

@@ -22,19 +22,19 @@ use Rattle.book.specs.Book.{termAt}
 use Rattle.pricer.specs.Bonds.{noBond, withTerms}
 use Rattle.book.specs.Parts.{entryCount, bondIn, termBondAt, bondOf}
 use Rattle.table.specs.declared.Table.{Table}
-use Rattle.table.specs.Views.{noJob, noMachine, noMessage, pastBond}
+use Rattle.table.specs.Views.{pastBond}
 use Rattle.table.specs.Views as views
-use Rattle.table.proofs.Long.{Long, sized}
 use Rattle.validity.specs.Validity.{tableOk}
+use Rattle.snapshot.proofs.Changes.{long-from}
 use Rattle.table_opening.specs.Opening.{blank, bondsOf, freshOf}
 use Rattle.table_opening.proofs.Counts.{entry-count-most}
 use Rattle.table_opening.proofs.Shown.{sized-fresh, bond-fresh}
 use Rattle.dispatcher.specs.Step.{stepOf}
 use Rattle.dispatcher.proofs.Preserved.{step-sized}
-use Rattle.dispatcher.proofs.Ready.{ready}
+use Rattle.dispatcher.proofs.Ready.{passed-sized}
 use Rattle.dispatcher.proofs.Fixed.{step-bonds}
-use Rattle.snapshot_read.specs.Layout.{couponAt, yieldAt, bondStart, termsFrom, bondFrom, bondsFrom, jobsFrom, machinesFrom, toldFrom, poolsFrom}
-use Rattle.snapshot_read.specs.Layout.{messagesFrom, decode}
+use Rattle.snapshot_read.specs.Layout.{couponAt, yieldAt, bondStart, termsFrom, bondFrom, bondsFrom}
+use Rattle.snapshot_read.specs.Layout.{decode}
 use Rattle.snapshot_round_trip.proofs.Elements.{RatesFit}
 use Rattle.snapshot_round_trip.proofs.Decode.{Encodable}
 
@@ -46,17 +46,6 @@ rates-read s at =
     byBool (eqb (getD s at 0) 0)
     (λ e. rw e (ofBits-fits binary64 (le64 s (at + yieldAt))))
     (λ e. rw e (ofBits-fits binary64 (le64 s (at + couponAt)), ofBits-fits binary64 (le64 s (at + yieldAt))))
-
-long-from : (s : List ℕ) → Long (decode s)
-unfolding decode bondsFrom jobsFrom machinesFrom toldFrom poolsFrom messagesFrom
-long-from s = record {
-  bonds = length-tabulate _ 64 pastBond 64;
-  jobs = length-tabulate _ 64 noJob 64;
-  machines = length-tabulate _ 16 noMachine 16;
-  told = length-tabulate _ 256 0 256;
-  pools = length-tabulate _ 1024 0 1024;
-  messages = length-tabulate _ 128 noMessage 128;
-}
 
 rates-from : (s : List ℕ) (j : ℕ) → j < 64 → RatesFit (getD (decode s .bonds) j pastBond .terms)
 unfolding decode bondsFrom
@@ -120,7 +109,7 @@ encodable-fresh s =
 module _ (t : Table) (e : List ℕ) (h : Encodable t) where
   passed : tableOk t ≡ true → Encodable (stepOf t e .table)
   passed k =
-      let z = step-sized t e (sized t (h .long) (ready t (h .long) k .flight)) in
+      let z = step-sized t e (passed-sized t (h .long) k) in
       record {
         long =
             record {

@@ -3,5 +3,4 @@ pub mod Elements
 pub mod Decode
 pub mod Encodable
 pub mod Run
-pub mod Parts
 pub mod Encode

@@ -6,10 +6,8 @@ use mathlib.Core.List.{List, [], _∷_, _++_, append-assoc}
 use native.Mathlib.Nat.{not-suc-le-zero}
 use native.Mathlib.Omega.{arith}
 use lib.ListN.{length, getD, drop, List·getD-append}
-use lib.Seq.{getD-drop, drop-drop, drop-at, ext-getD}
-use Rattle.lists.specs.Scan.{tabulate}
+use lib.Seq.{getD-drop, drop-drop, drop-at}
 use Rattle.lists.proofs.Cases.{byEq}
-use Rattle.lists.proofs.Scans.{length-tabulate, tabulate-at}
 use Rattle.endian.specs.Endian.{le16, le32, le64}
 use Rattle.text.specs.Text.{joined}
 use Rattle.snapshot_write.specs.Bytes.{bytes16, bytes32, bytes64}
@@ -86,9 +84,3 @@ element {s} {at} f w n h a i l =
       split = sym (drop-drop (w * i) at s) ∙ ap (λ (k : ℕ). drop k (drop at s)) (sym e)
           ∙ ap (drop (i * w)) (a .split) ∙ r .split;
     }
-
--- a list by its elements
-pub list-is : {A : Type 0} (f : ℕ → A) (l : List A) (d : A) (n : ℕ) → length l ≡ n → ((i : ℕ) → i < n → f i ≡ getD l i d) → tabulate f n ≡ l
-list-is {A} f l d n e h =
-    let m = length-tabulate f n d n in
-    ext-getD d (tabulate f n) l (m ∙ sym e) (λ i k. let b : i < n = omega arith in tabulate-at f n d n i d b ∙ h i b)

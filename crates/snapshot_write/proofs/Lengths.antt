@@ -1,7 +1,7 @@
 -- How many bytes each part of a snapshot has, and what the writing of one element says of the array. Assumes nothing.
 use Prim.Native.Nat.{ℕ, zero, suc, _+_, _*_, _/_, _%_, _≤_}
 use mathlib.Core.Path.{_≡_, refl, _∙_}
-use mathlib.Core.List.{List, [], _∷_, append-nil}
+use mathlib.Core.List.{List, [], _∷_, _++_, append-nil}
 use native.Mathlib.Nat.{suc-mul}
 use native.Mathlib.Omega.{arith}
 use lib.ListN.{length, getD, length-append, drop-of-length-le}
@@ -14,7 +14,7 @@ use Rattle.table.specs.declared.Message.{Message}
 use Rattle.table.specs.declared.Table.{Table}
 use Rattle.table.proofs.Long.{Long}
 use Rattle.table.specs.Views.{noJob, noMachine, noMessage, pastBond}
-use Rattle.snapshot_read.specs.Layout.{bondSize, jobSize, machineSize, messageSize, tableSize}
+use Rattle.snapshot_read.specs.Layout.{bondSize, jobSize, machineSize, messageSize, jobsStart, tableSize}
 use Rattle.snapshot_write.specs.Bytes.{entriesSize, machineStateSize, flightSize, bytes16, bytes32, bytes64, caseOf, couponBits, yieldBits}
 use Rattle.snapshot_write.specs.Bytes.{bondBytes}
 use Rattle.snapshot_write.specs.Bytes.{jobBytes}
@@ -99,6 +99,13 @@ pub length-machine-state : (t : Table) → Long t → length (machineStateBytes 
 unfolding machineStateBytes
 length-machine-state t l = simp length-append (omega (arith, length-machines (t .machines)))
 
+-- how many messages are in flight, and the first n slots
+abbrev pub flightTo : Table → ℕ → List ℕ
+flightTo t n = (t .«in_flight» ∷ []) ++ joined (λ i. messageBytes (getD (t .messages) i noMessage)) n
+
+pub length-flight-to : (t : Table) (n : ℕ) → length (flightTo t n) ≡ 1 + n * messageSize
+length-flight-to t n = simp length-append (omega (arith, length-messages-to (t .messages) n))
+
 pub length-flight : (t : Table) → length (flightBytes t) ≡ flightSize
 unfolding flightBytes
 length-flight t = simp length-append (omega (arith, length-messages (t .messages)))
@@ -131,6 +138,9 @@ module _ {d : List ℕ} {at : ℕ} {e : List ℕ} {m : ℕ} where
   pub end-machines : (l : List Machine) → Written d at (machinesBytes l) e m → m ≡ at + 16 * machineSize
   end-machines l p = omega (arith, p .end, length-machines l)
 
+  pub end-jobs : (l : List Job) → Written d at (jobsBytes l) e m → m ≡ at + 64 * jobSize
+  end-jobs l p = omega (arith, p .end, length-jobs l)
+
   pub end-entries : (t : Table) → Written d at (entriesBytes t) e m → m ≡ at + entriesSize
   end-entries t p = omega (arith, p .end, length-entries t)
 
@@ -155,10 +165,10 @@ module _ {d : List ℕ} {at : ℕ} {e : List ℕ} {m : ℕ} {f : List ℕ} {r : 
   unfolding messageBytes
   written-message v p q h = then p q (omega (arith, length-message v))
 
-  pub written-flight : (t : Table) → Written d at (t .«in_flight» ∷ []) e m → Written e m (messagesBytes (t .messages)) f r
-      → at + flightSize ≤ length d → Written d at (flightBytes t) f r
-  unfolding flightBytes
-  written-flight t p q h = then p q (omega (arith, length-flight t))
+  pub written-flight : (t : Table) (n : ℕ) → Written d at (t .«in_flight» ∷ []) e m
+      → Written e m (joined (λ i. messageBytes (getD (t .messages) i noMessage)) n) f r → at + (1 + n * messageSize) ≤ length d
+      → Written d at (flightTo t n) f r
+  written-flight t n p q h = then p q (omega (arith, length-flight-to t n))
 
   module _ {g : List ℕ} {k : ℕ} where
     pub written-bond : (b : Bond) (v x y : ℕ) → Written d at (v ∷ b .periods ∷ b .payments ∷ []) e m → Written e m (bytes64 x) f r
@@ -182,8 +192,20 @@ module _ {d : List ℕ} {at : ℕ} {e : List ℕ} {m : ℕ} {f : List ℕ} {r : 
 
 -- all of it
 pub written-all : (t : Table) {d e : List ℕ} {m : ℕ} {f : List ℕ} {r : ℕ} {g : List ℕ} {k : ℕ} → Written d 0 (entriesBytes t) e m
-    → Written e m (machineStateBytes t) f r → Written f r (flightBytes t) g k → Long t → length d ≡ tableSize → g ≡ encode t
-unfolding encode
+    → Written e m (machineStateBytes t) f r → Written f r (flightTo t 128) g k → Long t → length d ≡ tableSize → g ≡ encode t
+unfolding encode flightBytes messagesBytes
 written-all t {d} p q s l h =
     let n = length-bytes t l in
     then-two p q s (omega (arith, n)) .text ∙ over-all d (encode t) (omega (arith, n))
+
+-- what an event may change
+abbrev pub changesTo : Table → ℕ → List ℕ
+changesTo t n = jobsBytes (t .jobs) ++ machineStateBytes t ++ flightTo t n
+
+pub length-changes : (t : Table) (n : ℕ) → Long t → length (changesTo t n) ≡ 64 * jobSize + machineStateSize + (1 + n * messageSize)
+length-changes t n l = simp length-append (omega (arith, length-jobs (t .jobs), length-machine-state t l, length-messages-to (t .messages) n))
+
+pub written-changes : (t : Table) (n : ℕ) {d e : List ℕ} {m : ℕ} {f : List ℕ} {r : ℕ} {g : List ℕ} {k : ℕ} → Written d jobsStart (jobsBytes (t .jobs)) e m
+    → Written e m (machineStateBytes t) f r → Written f r (flightTo t n) g k → Long t → n ≤ 128 → length d ≡ tableSize
+    → g ≡ over d jobsStart (changesTo t n)
+written-changes t n p q s l h e = then-two p q s (omega (arith, length-changes t n l)) .text

@@ -1,12 +1,14 @@
 // Writing a snapshot: its bytes into a lent buffer. Each function writes from a position on and answers the position after what it wrote.
 ghost use mathlib.Core.Path.{_≡_};
 ghost use Prim.Native.Nat.{_+_, _*_, _≤_};
-ghost use lib.ListN.{length};
-ghost use Rattle.text.specs.Text.{Written};
-ghost use Rattle.snapshot_read.specs.Layout.{bondSize, jobSize, machineSize, messageSize, tableSize};
-ghost use Rattle.snapshot_write.specs.Bytes.{entriesSize, machineStateSize, flightSize, bytes16, bytes32, bytes64, caseOf, couponBits};
+ghost use mathlib.Core.List.{[], _∷_, _++_};
+ghost use lib.ListN.{length, getD};
+ghost use Rattle.text.specs.Text.{over, joined, Written};
+ghost use Rattle.table.specs.Views.{noMessage};
+ghost use Rattle.snapshot_read.specs.Layout.{bondSize, jobSize, machineSize, messageSize, jobsStart, tableSize};
+ghost use Rattle.snapshot_write.specs.Bytes.{entriesSize, machineStateSize, bytes16, bytes32, bytes64, caseOf, couponBits};
 ghost use Rattle.snapshot_write.specs.Bytes.{yieldBits, bondBytes, jobBytes, machineBytes, messageBytes, bondsBytes, jobsBytes, machinesBytes};
-ghost use Rattle.snapshot_write.specs.Bytes.{messagesBytes, entriesBytes, machineStateBytes, flightBytes, encode};
+ghost use Rattle.snapshot_write.specs.Bytes.{entriesBytes, machineStateBytes, encode};
 use pricer::Bond;
 use pricer::Terms;
 use table::Job;
@@ -155,13 +157,14 @@ fn put_machines(out: &mut [u8], at: usize, machines: [Machine; 16]) -> usize
     end
 }
 
-fn put_messages(out: &mut [u8], at: usize, messages: [Message; 128]) -> usize
-    requires { ⌜ at + 128 * messageSize ≤ length (now out) ⌝ }
-    ensures { λ r. ⌜ Written (now (out .entry)) at (messagesBytes messages) (now (out .exit)) r ⌝ }
+// The messages of the first n slots.
+fn put_messages(out: &mut [u8], at: usize, messages: [Message; 128], n: usize) -> usize
+    requires { ⌜ (n ≤ 128) × (at + n * messageSize ≤ length (now out)) ⌝ }
+    ensures { λ r. ⌜ Written (now (out .entry)) at (joined (λ i. messageBytes (getD messages i noMessage)) n) (now (out .exit)) r ⌝ }
 {
     let mut end = at;
     let mut i: usize = 0;
-    while i < 128 {
+    while i < n {
         end = put_message(out, end, messages[i]);
         i += 1;
     }
@@ -213,15 +216,16 @@ fn put_machine_state(out: &mut [u8], at: usize, t: Table) -> usize
     put_pools(out, b, pools)
 }
 
-// How many messages are in flight, and the messages.
-fn put_flight(out: &mut [u8], at: usize, t: Table) -> usize
-    requires { ⌜ at + flightSize ≤ length (now out) ⌝ }
-    ensures { λ r. ⌜ Written (now (out .entry)) at (flightBytes t) (now (out .exit)) r ⌝ }
+// How many messages are in flight, and the first n slots.
+fn put_flight(out: &mut [u8], at: usize, t: Table, n: usize) -> usize
+    requires { ⌜ (n ≤ 128) × (at + (1 + n * messageSize) ≤ length (now out)) ⌝ }
+    ensures { λ r. ⌜ Written (now (out .entry)) at ((t .«in_flight» ∷ []) ++ joined (λ i. messageBytes (getD (t .messages) i noMessage)) n)
+        (now (out .exit)) r ⌝ }
 {
     let messages = t.messages;
     let used = [t.in_flight];
     let a = text::put(out, at, &used);
-    put_messages(out, a, messages)
+    put_messages(out, a, messages, n)
 }
 
 // Writes the table over a buffer of its size.
@@ -231,5 +235,17 @@ pub fn encode(t: Table, out: &mut [u8])
 {
     let a = put_entries(out, 0, t);
     let b = put_machine_state(out, a, t);
-    put_flight(out, b, t);
+    put_flight(out, b, t, 128);
+}
+
+// Writes what an event may change: all but the counts, the terms and the slots from n on.
+pub fn put_changes(t: Table, n: usize, out: &mut [u8])
+    requires { ⌜ (n ≤ 128) × (length (now out) ≡ tableSize) ⌝ }
+    ensures { λ _. ⌜ now (out .exit) ≡ over (now (out .entry)) jobsStart
+        (jobsBytes (t .jobs) ++ machineStateBytes t ++ ((t .«in_flight» ∷ []) ++ joined (λ i. messageBytes (getD (t .messages) i noMessage)) n)) ⌝ }
+{
+    let jobs = t.jobs;
+    let a = put_jobs(out, snapshot_read::JOBS_START, jobs);
+    let b = put_machine_state(out, a, t);
+    put_flight(out, b, t, n);
 }

@@ -6,10 +6,6 @@ use Rattle.table.specs.declared.Message.{Message}
 use Rattle.table.specs.declared.Table.{Table}
 use Rattle.table.specs.Views.{jobAt, machineAt, messageAt}
 
--- a slot is free
-pub record Room (t : Table) : Type 0 where
-  pub free : t .«in_flight» < 128
-
 -- "up to 128 messages in flight": a slot is free for a message to machine b, where b lives
 abbrev pub RoomFor : Table → ℕ → Type 0
 RoomFor t b = machineAt t b .alive ≡ 1 → t .«in_flight» < 128

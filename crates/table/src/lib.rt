@@ -3,8 +3,7 @@
 // variable first.
 // What each field holds is listed at the head of specs/Views.antt. What is unused is 0 throughout.
 ghost use mathlib.Core.Path.{_≡_};
-ghost use Prim.Native.Nat.{_<_};
-ghost use Rattle.table.specs.Views.{toldAt, refuse};
+ghost use Rattle.table.specs.Views.{refuse};
 use pricer::Bond;
 
 pub struct Job {
@@ -62,15 +61,6 @@ pub fn refuse(number: u8, t: Table) -> Answer
         number: number,
         table: t,
     }
-}
-
-// 1 where machine m has been told that machine d is dead.
-pub fn told_at(t: Table, m: usize, d: usize) -> u8
-    requires { ⌜ (m < 16) × (d < 16) ⌝ }
-    ensures { λ r. ⌜ r ≡ toldAt t m d ⌝ }
-{
-    let told = t.told;
-    told[m * 16 + d]
 }
 
 // The states of a job.

@@ -1,15 +1,12 @@
 // Refusal 9: whether a table is in order. One function for each array,
 // over the tests of one element in the crates `validity_element` and `validity_message`.
 ghost use mathlib.Core.Path.{_≡_};
-ghost use Prim.Native.Nat.{_+_, _*_, _<_};
+ghost use Prim.Native.Nat.{ℕ, _+_, _*_, _<_};
 ghost use lib.ListN.{getD};
 ghost use Rattle.lists.specs.Scan.{all};
-ghost use Rattle.table.specs.Views.{noMachine};
+ghost use Rattle.table.specs.Views.{machineAt};
 ghost use Rattle.validity_element.specs.Element.{toldOk, cellOk};
-ghost use Rattle.validity_message.specs.Message.{slotOk};
 ghost use Rattle.validity.specs.Validity.{sizesOk, maxReplica, bondsOk, jobsOk, machinesOk, poolsOk, messagesOk, rootOk, toldsOk, tableOk};
-use table::Machine;
-use table::Message;
 use table::Table;
 
 fn sizes_ok(t: Table) -> bool
@@ -85,23 +82,35 @@ fn machines_ok(t: Table, b: u8) -> bool
     true
 }
 
-// The pool of machine m, of which alive says whether it is. A cell that is 0 passes without a call.
-fn pool_row(entries: u8, b: u8, alive: u8, pools: [u8; 1024], m: usize) -> bool
+// Of each number that a byte may have, whether that machine is alive: 1 or 0, and 0 where there is none. Made once, and lent.
+fn alive_of(t: Table) -> [u8; 256]
+    ensures { λ r. ⌜ ((k : ℕ) → getD r k 0 ≡ machineAt t k .alive) ⌝ }
+{
+    let machines = t.machines;
+    let mut alive = [0u8; 256];
+    let mut i: usize = 0;
+    while i < 16 {
+        let n = machines[i];
+        alive[i] = n.alive;
+        i += 1;
+    }
+    alive
+}
+
+// The pool of machine m, of which alive says whether it is. It goes to the end whatever it finds: a loop with one way out tests many cells at a time.
+fn pool_row(entries: u8, b: u8, alive: u8, pools: &[u8; 1024], m: usize) -> bool
     requires { ⌜ m < 16 ⌝ }
-    ensures { λ r. ⌜ r ≡ all (λ j. cellOk entries b alive j (getD pools (m * 64 + j) 0)) 64 ⌝ }
+    ensures { λ r. ⌜ r ≡ all (λ j. cellOk entries b alive j (getD (now (pools .entry)) (m * 64 + j) 0)) 64 ⌝ }
 {
     let base = m * 64;
+    let mut ok = true;
     let mut i: usize = 0;
     while i < 64 {
         let x = pools[base + i];
-        if x != 0 {
-            if !validity_element::cell_ok(entries, b, alive, i as u8, x) {
-                return false;
-            }
-        }
+        ok = ok & validity_element::cell_ok(entries, b, alive, i as u8, x);
         i += 1;
     }
-    true
+    ok
 }
 
 fn pools_ok(t: Table, b: u8) -> bool
@@ -113,7 +122,7 @@ fn pools_ok(t: Table, b: u8) -> bool
     let mut i: usize = 0;
     while i < 16 {
         let n = machines[i];
-        if !pool_row(entries, b, n.alive, pools, i) {
+        if !pool_row(entries, b, n.alive, &pools, i) {
             return false;
         }
         i += 1;
@@ -121,45 +130,19 @@ fn pools_ok(t: Table, b: u8) -> bool
     true
 }
 
-// Whether machine m is alive: 1 or 0, and 0 where there is none.
-fn alive_at(machines: [Machine; 16], m: u8) -> u8
-    ensures { λ r. ⌜ r ≡ getD machines m noMachine .alive ⌝ }
-{
-    if m < 16 {
-        let n = machines[m as usize];
-        return n.alive;
-    }
-    0
-}
-
-// Slot i, which holds m.
-fn slot_ok(
-    machine_count: u8,
-    entries: u8,
-    b: u8,
-    used: u8,
-    i: u8,
-    machines: [Machine; 16],
-    m: Message,
-) -> bool
-    ensures { λ r. ⌜ r ≡ slotOk «machine_count» entries b used i (getD machines (m .to) noMachine .alive) m ⌝ }
-{
-    let alive = alive_at(machines, m.to);
-    validity_message::slot_ok(machine_count, entries, b, used, i, alive, m)
-}
-
-fn messages_ok(t: Table, b: u8) -> bool
+fn messages_ok(t: Table, b: u8, alive: &[u8; 256]) -> bool
+    requires { ⌜ ((k : ℕ) → getD (now alive) k 0 ≡ machineAt t k .alive) ⌝ }
     ensures { λ r. ⌜ r ≡ messagesOk t b ⌝ }
 {
     let machine_count = t.machine_count;
     let entries = t.entry_count;
     let used = t.in_flight;
-    let machines = t.machines;
     let messages = t.messages;
     let mut i: usize = 0;
     while i < 128 {
         let m = messages[i];
-        if !slot_ok(machine_count, entries, b, used, i as u8, machines, m) {
+        let to = alive[m.to as usize];
+        if !validity_message::slot_ok(machine_count, entries, b, used, i as u8, to, m) {
             return false;
         }
         i += 1;
@@ -174,33 +157,32 @@ fn root_ok(t: Table) -> bool
     n.alive == 1
 }
 
-// What machine m has been told.
-fn told_row(machine_count: u8, machines: [Machine; 16], told: [u8; 256], m: usize) -> bool
+// What machine m has been told. It goes to the end, as `pool_row` does.
+fn told_row(machine_count: u8, alive: &[u8; 256], told: &[u8; 256], m: usize) -> bool
     requires { ⌜ m < 16 ⌝ }
-    ensures { λ r. ⌜ r ≡ all (λ d. toldOk «machine_count» (getD machines d noMachine .alive) m d (getD told (m * 16 + d) 0)) 16 ⌝ }
+    ensures { λ r. ⌜ r ≡ all (λ d. toldOk «machine_count» (getD (now (alive .entry)) d 0) m d (getD (now (told .entry)) (m * 16 + d) 0)) 16 ⌝ }
 {
     let base = m * 16;
+    let mut ok = true;
     let mut i: usize = 0;
     while i < 16 {
-        let n = machines[i];
+        let a = alive[i];
         let x = told[base + i];
-        if !validity_element::told_ok(machine_count, n.alive, m as u8, i as u8, x) {
-            return false;
-        }
+        ok = ok & validity_element::told_ok(machine_count, a, m as u8, i as u8, x);
         i += 1;
     }
-    true
+    ok
 }
 
-fn tolds_ok(t: Table) -> bool
+fn tolds_ok(t: Table, alive: &[u8; 256]) -> bool
+    requires { ⌜ ((k : ℕ) → getD (now alive) k 0 ≡ machineAt t k .alive) ⌝ }
     ensures { λ r. ⌜ r ≡ toldsOk t ⌝ }
 {
     let machine_count = t.machine_count;
-    let machines = t.machines;
     let told = t.told;
     let mut i: usize = 0;
     while i < 16 {
-        if !told_row(machine_count, machines, told, i) {
+        if !told_row(machine_count, alive, &told, i) {
             return false;
         }
         i += 1;
@@ -213,12 +195,13 @@ pub fn table_ok(t: Table) -> bool
     ensures { λ r. ⌜ r ≡ tableOk t ⌝ }
 {
     let b = max_replica(t);
+    let alive = alive_of(t);
     sizes_ok(t)
         & bonds_ok(t)
         & jobs_ok(t, b)
         & machines_ok(t, b)
         & pools_ok(t, b)
-        & messages_ok(t, b)
+        & messages_ok(t, b, &alive)
         & root_ok(t)
-        & tolds_ok(t)
+        & tolds_ok(t, &alive)
 }

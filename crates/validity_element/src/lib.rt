@@ -64,10 +64,14 @@ fn place_ok(machines: u8, v: Job) -> bool
         & ((v.moving == 0) & (v.thief == 0) | (v.moving == 1) & (v.thief < machines))
 }
 
+// A job that is not admitted is empty, and no other is: one test says which of the two is asked.
 pub fn job_ok(machines: u8, entries: u8, b: u8, j: u8, v: Job) -> bool
     ensures { λ r. ⌜ r ≡ jobOk machines entries b j v ⌝ }
 {
-    empty_job(v) | admitted_ok(v) & copy_ok(entries, b, j, v.replica) & place_ok(machines, v)
+    if v.state == table::NOT_ADMITTED {
+        return empty_job(v);
+    }
+    admitted_ok(v) & copy_ok(entries, b, j, v.replica) & place_ok(machines, v)
 }
 
 fn empty_machine(n: Machine) -> bool
@@ -96,15 +100,18 @@ fn running_ok(entries: u8, b: u8, n: Machine) -> bool
         | copy_ok(entries, b, n.running_job, n.running_replica)
 }
 
+// A machine that is not alive is empty, and no other is: one test says which of the two is asked.
 pub fn machine_ok(machines: u8, entries: u8, b: u8, m: u8, n: Machine) -> bool
     ensures { λ r. ⌜ r ≡ machineOk machines entries b m n ⌝ }
 {
-    empty_machine(n)
-        | (m < machines)
-            & (n.alive == 1)
-            & (n.waits <= machines)
-            & reserved_ok(machines, entries, b, n)
-            & running_ok(entries, b, n)
+    if n.alive == 0 {
+        return empty_machine(n);
+    }
+    (m < machines)
+        & (n.alive == 1)
+        & (n.waits <= machines)
+        & reserved_ok(machines, entries, b, n)
+        & running_ok(entries, b, n)
 }
 
 pub fn told_ok(machines: u8, alive: u8, m: u8, d: u8, x: u8) -> bool

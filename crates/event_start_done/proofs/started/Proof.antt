@@ -1,27 +1,14 @@
--- `event_start_done::started` meets its contract. Two stores.
+-- `event_start_done::started` meets its contract. The fields are those of the definition.
 -- Assumes nothing.
-use borrow.Author.Needs.{needs}
-use Rattle.lists.proofs.Rules.{flags}
+use mathlib.Core.Path.{refl}
 use Rattle.table.specs.Parts.{pieces}
-use Rattle.table.specs.Views.{parts}
-use Rattle.event_start_done.specs.StartDone.{started}
+use Rattle.event_start_done.specs.StartDoneParts.{startChange}
 use Rattle.event_start_done.proofs.started.Statement.{statement}
 use Rattle.event_start_done.proofs.started.Tie as tie
 
 returns : tie.Need-returns
-unfolding started pieces parts
-returns c = search flags
+unfolding startChange pieces
+returns c = refl
 
 pub started-spec : {M : Type 1} → statement M
-started-spec =
-    tie.close
-    (tie.spec
-    (λ c. search needs)
-    (λ c. search needs)
-    (λ c. search needs)
-    (λ c. search needs)
-    (λ c. search needs)
-    (λ c. search needs)
-    (λ c. search needs)
-    (λ c. search needs)
-    returns)
+started-spec = tie.close (tie.spec returns)

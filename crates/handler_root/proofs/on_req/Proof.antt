@@ -2,44 +2,22 @@
 -- Assumes nothing.
 use borrow.Author.Needs.{needs}
 use Rattle.table.specs.Parts.{pieces}
-use Rattle.table.specs.Views.{parts}
-use Rattle.handler_root.specs.Root.{onReq}
+use Rattle.handler_root.specs.RootParts.{reqChange}
 use Rattle.handler_root.proofs.on_req.Statement.{statement}
 use Rattle.handler_root.proofs.on_req.Tie as tie
 
 returns : tie.Need-returns
-unfolding onReq pieces parts
+unfolding reqChange
 returns c = rw (c .reply .ensures, c .before .if1 .taken)
 
 returns-2 : tie.Need-returns-2
-unfolding onReq pieces parts
-returns-2 c =
-    rw (
-      c .reply2 .ensures,
-      ← c .before .before .before .told-at .ensures,
-      c .before .before .before .before .before .if1 .left,
-      c .before .if2 .taken,
-    )
+unfolding reqChange
+returns-2 c = rw (c .reply2 .ensures, c .before .before .before .if1 .left, c .before .if2 .taken)
 
 returns-3 : tie.Need-returns-3
-unfolding onReq pieces parts
-returns-3 c =
-    rw (c .reply3 .ensures, ← c .before .before .before .told-at .ensures, c .before .before .before .before .before .if1 .left, c .before .if2 .left)
+unfolding reqChange pieces
+returns-3 c = rw (c .reply3 .ensures, c .before .before .before .if1 .left, c .before .if2 .left)
 
 pub on-req-spec : {M : Type 1} → statement M
 on-req-spec =
-    tie.close
-    (tie.spec
-    (λ c. search needs)
-    (λ c. search needs)
-    (λ c. search needs)
-    (λ c κs. search needs)
-    returns
-    (λ c. search needs)
-    (λ c κs. search needs)
-    (λ c κs. search needs)
-    returns-2
-    (λ c. search needs)
-    (λ c. search needs)
-    (λ c κs. search needs)
-    returns-3)
+    tie.close (tie.spec (λ c κs. search needs) returns (λ c κs. search needs) returns-2 (λ c κs. search needs) returns-3)

@@ -1,47 +1,34 @@
--- `handler_victim::on_fish` meets its contract. The two refusals of work and the grant come in the order of the definition.
+-- `handler_victim::on_fish` meets its contract. The test is one flag; where it is false, the lowest job is below 64 and fits a byte.
 -- Assumes nothing.
 use borrow.Author.Needs.{needs}
-use borrow.Author.Tests.{eq-eqb, ne-eqb, le-leb, lt-leb}
-use Rattle.table.specs.Views.{parts}
-use Rattle.handler_victim.specs.Victim.{onFish}
+use borrow.Author.Tests.{leb-false}
+use lib.Dec.{eqb, leb}
+use mathlib.Core.Bool.{Bool, true, false, _||_, not, true≢false}
+use mathlib.Core.Path.{_≡_}
+use native.Mathlib.Omega.{arith}
+use Prim.Native.Nat.{ℕ, _<_}
+use Rattle.table.specs.Parts.{message, pieces}
+use Rattle.handler_victim.specs.VictimParts.{fishChange}
 use Rattle.handler_victim.proofs.on_fish.Statement.{statement}
 use Rattle.handler_victim.proofs.on_fish.Tie as tie
 
+below : (a : Bool) (low : ℕ) → a || leb 64 low ≡ false → low < 64
+below true low e = absurd (true≢false e)
+below false low e = leb-false _ _ e
+
 returns : tie.Need-returns
-unfolding onFish parts
-returns c = rw (c .no-work .ensures, ne-eqb _ _ (c .before .if1 .taken))
+unfolding fishChange
+returns c = rw (c .no-work .ensures, c .before .if1 .taken)
+
+cast-lowest : tie.Need-cast-lowest
+cast-lowest c =
+    let args = c .before .before .before .before .args in
+    let l = below (not (eqb (args .p .machine .«reserved_replica») 0)) (args .low) (c .if1 .left) in
+    omega (arith, l)
 
 returns-2 : tie.Need-returns-2
-unfolding onFish parts
-returns-2 c =
-    rw (
-      c .no-work2 .ensures,
-      ← c .before .before .lowest .ensures,
-      eq-eqb _ _ (c .before .before .before .if1 .left),
-      le-leb _ _ (c .before .if2 .taken),
-    )
-
-returns-3 : tie.Need-returns-3
-unfolding onFish parts
-returns-3 c =
-    rw (
-      c .grant .ensures,
-      ← c .before .before .lowest .ensures,
-      eq-eqb _ _ (c .before .before .before .if1 .left),
-      lt-leb _ _ (c .before .if2 .left),
-    )
+unfolding fishChange message pieces
+returns-2 c = rw (c .if1 .left)
 
 pub on-fish-spec : {M : Type 1} → statement M
-on-fish-spec =
-    tie.close
-    (tie.spec
-    (λ c. search needs)
-    (λ c. search needs)
-    (λ c. search needs)
-    (λ c κs. search needs)
-    returns
-    (λ c κs. search needs)
-    (λ c κs. search needs)
-    returns-2
-    (λ c κs. search needs)
-    returns-3)
+on-fish-spec = tie.close (tie.spec (λ c κs. search needs) returns cast-lowest returns-2)

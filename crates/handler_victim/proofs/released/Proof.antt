@@ -1,15 +1,13 @@
--- `handler_victim::released` meets its contract. One store into one machine.
+-- `handler_victim::released` meets its contract. The fields are those of the definition.
 -- Assumes nothing.
-use borrow.Author.Needs.{needs}
-use Rattle.lists.proofs.Rules.{flags}
-use Rattle.table.specs.Parts.{pieces}
-use Rattle.table.specs.Views.{parts}
+use mathlib.Core.Path.{refl}
+use Rattle.table.specs.Parts.{release}
 use Rattle.handler_victim.proofs.released.Statement.{statement}
 use Rattle.handler_victim.proofs.released.Tie as tie
 
 returns : tie.Need-returns
-unfolding pieces parts
-returns c = search flags
+unfolding release
+returns c = refl
 
 pub released-spec : {M : Type 1} → statement M
-released-spec = tie.close (tie.spec (λ c. search needs) (λ c. search needs) (λ c. search needs) (λ c. search needs) returns)
+released-spec = tie.close (tie.spec returns)

@@ -3,7 +3,7 @@ use mathlib.Core.Path.{ap, _∙_}
 use native.Mathlib.Omega.{arith}
 use lib.ListN.{length, length-take}
 use Rattle.validity.specs.Validity.{tableOk}
-use Rattle.page_run.specs.Run.{bytesMost}
+use Rattle.dispatcher.specs.Events.{bytesMost}
 use Rattle.theorem_fresh.proofs.Passes.{fresh-passes}
 use Rattle.page.proofs.Opened.{verdict-small}
 use Rattle.page.proofs.Pages.{short-printed, short-buffer, page-printed, page-buffer, refused-written, accepted-written}

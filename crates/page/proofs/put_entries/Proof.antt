@@ -11,7 +11,7 @@ use Rattle.book.proofs.Accepted.{identifier-whole, identifier-below}
 use Rattle.table.specs.Views.{jobAt}
 use Rattle.table.proofs.Long.{long}
 use Rattle.table_opening.proofs.Counts as counts
-use Rattle.page_run.proofs.Events.{passed-sized}
+use Rattle.dispatcher.proofs.Ready.{passed-sized}
 use Rattle.page.specs.Page.{entriesText}
 use Rattle.page.proofs.Longest.{lineOf, identifier-most, replica-small, lines-most}
 use Rattle.page.proofs.Pages.{line-written}

@@ -1,8 +1,9 @@
 -- `page::put_run` meets its contract. Assumes nothing.
 use native.Mathlib.Omega.{arith}
 use Rattle.table.proofs.Long.{long}
-use Rattle.page_run.specs.Run.{eventsIn}
-use Rattle.page_run.proofs.Events.{passed-sized, run-passes}
+use Rattle.dispatcher.specs.Events.{eventsIn}
+use Rattle.dispatcher.proofs.Preserved.{run-ok}
+use Rattle.dispatcher.proofs.Ready.{passed-sized}
 use Rattle.page.proofs.Longest.{listed-most, run-most}
 use Rattle.page.proofs.Pages.{run-written}
 use borrow.Author.Needs.{needs}
@@ -14,8 +15,9 @@ put-entries-requires c κs =
     let ran = c .before .before .before .before in
     let s = ran .before .before .before .before .before in
     let a = s .args in
-    let r = ran .run in (
-      rw (r .ensures .table) (run-passes (a .t) (eventsIn (a .events .now)) (long (a .t) _ (s .good .1 .0)) (s .pre .0)),
+    let r = ran .run in
+    let z = passed-sized (a .t) (long (a .t) _ (s .good .1 .0)) (s .pre .0) in (
+      rw (r .ensures .table) (run-ok (a .t) (eventsIn (a .events .now)) z (s .pre .0)),
       omega (arith, r .ensures .lines .end, listed-most (a .t) (a .events .now) (s .pre .1 .0), s .pre .1 .1),
     )
 

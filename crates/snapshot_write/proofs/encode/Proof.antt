@@ -10,7 +10,7 @@ put-machine-state-requires : tie.Need-put-machine-state-requires
 put-machine-state-requires c κs = omega (arith, end-entries)
 
 put-flight-requires : tie.Need-put-flight-requires
-put-flight-requires c κs = omega (arith, end-entries)
+put-flight-requires c κs = (omega arith, omega (arith, end-entries))
 
 returns : tie.Need-returns
 returns c = search (written-all, long)

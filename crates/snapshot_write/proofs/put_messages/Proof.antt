@@ -7,17 +7,17 @@ use lib.ListN.{length, getD}
 use Rattle.text.specs.Text.{joined, Written}
 use Rattle.text.proofs.Over.{joined-none, joined-more}
 use Rattle.table.specs.Views.{noMessage}
-use Rattle.snapshot_write.specs.Bytes.{messageBytes, messagesBytes}
+use Rattle.snapshot_write.specs.Bytes.{messageBytes}
 use Rattle.snapshot_write.proofs.Lengths.{length-messages-to}
 use Rattle.snapshot_write.proofs.put_messages.Statement.{statement}
 use Rattle.snapshot_write.proofs.put_messages.Tie as tie
 
 abbrev Inv-loop : tie.InvT-loop
-Inv-loop out₀ at messages end₀ i₀ out end i =
-    (i ≤ 128) × (length out ≡ length out₀) × Written out₀ at (joined (λ k. messageBytes (getD messages k noMessage)) i) out end
+Inv-loop out₀ at n messages end₀ i₀ out end i =
+    (i ≤ n) × (length out ≡ length out₀) × Written out₀ at (joined (λ k. messageBytes (getD messages k noMessage)) i) out end
 
 abbrev μ-loop : tie.MeasureT-loop
-μ-loop out₀ at messages end₀ i₀ out end i = 128 - i
+μ-loop out₀ at n messages end₀ i₀ out end i = n - i
 
 loop-holds : tie.Need-loop-holds Inv-loop μ-loop
 loop-holds c = let a = c .before .args in
@@ -38,10 +38,9 @@ loop-again c =
     )
 
 returns : tie.Need-returns Inv-loop μ-loop
-unfolding messagesBytes
 returns c =
     let l = c .before .loop in
-    let e : l .i ≡ 128 = omega arith in
+    let e : l .i ≡ c .before .before .before .args .n = omega arith in
     rw e at (l .inv .2)
 
 pub put-messages-spec : {M : Type 1} → statement M

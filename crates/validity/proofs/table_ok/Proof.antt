@@ -8,16 +8,19 @@ use Rattle.validity.proofs.table_ok.Tie as tie
 returns : tie.Need-returns
 unfolding tableOk
 returns c =
+    let m = c .before .before .before in
+    let p = m .before .before in
+    let s = p .before .before .before .before in
     rw (
-      c .before .before .before .before .before .before .before .sizes-ok .ensures,
-      c .before .before .before .before .before .before .bonds-ok .ensures,
-      c .before .before .before .before .before .jobs-ok .ensures,
-      c .before .before .before .before .machines-ok .ensures,
-      c .before .before .before .pools-ok .ensures,
-      c .before .before .messages-ok .ensures,
-      c .before .root-ok .ensures,
+      s .sizes-ok .ensures,
+      p .before .before .before .bonds-ok .ensures,
+      p .before .before .jobs-ok .ensures,
+      p .before .machines-ok .ensures,
+      p .pools-ok .ensures,
+      m .messages-ok .ensures,
+      c .before .before .root-ok .ensures,
       c .tolds-ok .ensures,
-      c .before .before .before .before .before .before .before .before .max-replica .ensures,
+      s .before .before .max-replica .ensures,
     )
 
 pub table-ok-spec : {M : Type 1} → statement M
@@ -31,6 +34,7 @@ table-ok-spec =
     (λ c κs. search needs)
     (λ c κs. search needs)
     (λ c κs. search needs)
+    (λ c κs. c .before .before .before .before .before .before .alive-of .ensures)
     (λ c κs. search needs)
-    (λ c κs. search needs)
+    (λ c κs. c .before .before .before .before .before .before .before .before .before .alive-of .ensures)
     returns)
