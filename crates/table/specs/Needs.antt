@@ -1,5 +1,5 @@
--- What the code of the handlers and of the events asks of a message and of a table. A table that passes check 9 gives `Within` and `Ready`;
--- a slot is free where a message was taken off.
+-- What is known of a table before an event, and what Die and Notice ask of it. A table that passes check 9 is `Ready`, and what its slots hold is
+-- `Within` the arrays; Steal's refusals have tested `RoomFor`.
 use Prim.Native.Nat.{ℕ, _<_, _≤_}
 use mathlib.Core.Path.{_≡_}
 use Rattle.table.specs.declared.Message.{Message}

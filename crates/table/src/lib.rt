@@ -1,6 +1,6 @@
 // The table: one struct with flat arrays for bonds, jobs, machines, pools and messages. It is passed and returned by value.
-// The compiler copies a parameter that is indexed, whole: what a run does often takes the array that it reads, or the table that it writes, into a
-// variable first.
+// The compiler copies a parameter that is indexed, whole: a function that reads one array often takes it into a variable first, and one that writes the
+// table, the table.
 // What each field holds is listed at the head of specs/Views.antt. What is unused is 0 throughout.
 ghost use mathlib.Core.Path.{_≡_};
 ghost use Rattle.table.specs.Views.{refuse};
