@@ -27,10 +27,10 @@ use Rattle.handler.specs.Handler.{handle}
 use Rattle.handler.specs.HandlerParts.{lowestFor, handledJob, handleChange}
 use Rattle.handler.proofs.Made.{made-handle, lowest-for}
 use Rattle.handler.proofs.Sent.{handle-to}
-use Rattle.event_admit_deliver_die.specs.AdmitDeliverDie.{admitOf, delivered, deliverOf, dieOf}
+use Rattle.event_admit_deliver_die.specs.AdmitDeliverDie.{admitOf, delivered, deliverNumber, deliverOf, dieOf}
 use Rattle.event_admit_deliver_die.proofs.Cases.{by-admit, by-deliver}
 use Rattle.event_admit_deliver_die.proofs.Made.{admit-number, made-admitted, deliver-number, die-number}
-use Rattle.event_admit_deliver_die.specs.AdmitDeliverDieParts.{admitChange, deliverNumber}
+use Rattle.event_admit_deliver_die.specs.AdmitDeliverDieParts.{admitChange}
 use Rattle.event_steal.specs.Steal.{stealOf}
 use Rattle.event_steal.specs.StealParts.{stealChange}
 use Rattle.event_steal.proofs.Cases.{by-steal}
@@ -68,7 +68,7 @@ not-both code l m = omega arith
 next : (n code : ℕ) → n ≤ code → code ≢ n → suc n ≤ code
 next n code l e = omega arith
 
-by-code : (t : Table) (code a b : ℕ) → indicesInRange t code a b ≡ true → 1 ≤ code → code ≤ lastCode → (P : ℕ → Answer → Type 0) → Coded t a b P
+pub by-code : (t : Table) (code a b : ℕ) → indicesInRange t code a b ≡ true → 1 ≤ code → code ≤ lastCode → (P : ℕ → Answer → Type 0) → Coded t a b P
     → P code (eventOf t code a b)
 unfolding eventOf
 by-code t code a b g l m P r =

@@ -12,10 +12,13 @@ use Rattle.protocol_change.specs.declared.Parts.{Parts}
 use Rattle.protocol_change.specs.declared.Change.{Change}
 use Rattle.protocol_change.specs.Change.{silent}
 use Rattle.handler.specs.HandlerParts.{handledJob, handleChange}
-use Rattle.event_admit_deliver_die.specs.AdmitDeliverDieParts.{admitNumber, admitChange, deliverNumber, dieNumber}
-use Rattle.event_steal.specs.StealParts.{stealNumber, stealChange}
-use Rattle.event_start_done.specs.StartDoneParts.{startNumber, startChange, doneNumber, doneChange}
-use Rattle.event_notice.specs.NoticeParts.{noticeNumber}
+use Rattle.event_admit_deliver_die.specs.AdmitDeliverDie.{admitNumber, deliverNumber, dieNumber}
+use Rattle.event_admit_deliver_die.specs.AdmitDeliverDieParts.{admitChange}
+use Rattle.event_steal.specs.Steal.{stealNumber}
+use Rattle.event_steal.specs.StealParts.{stealChange}
+use Rattle.event_start_done.specs.StartDone.{startNumber, doneNumber}
+use Rattle.event_start_done.specs.StartDoneParts.{startChange, doneChange}
+use Rattle.event_notice.specs.Notice.{noticeNumber}
 use Rattle.dispatcher.specs.declared.Ask.{Ask}
 use Rattle.dispatcher.specs.declared.Place.{Place}
 use Rattle.dispatcher.specs.Codes.{ADMIT, STEAL, DELIVER, START, DONE, DIE, NOTICE}

@@ -3,8 +3,8 @@
 // Deliver's change is the handler's (crate `handler`); Die changes more than parts, and takes a table that passed check 9 by value.
 ghost use mathlib.Core.Path.{_≡_};
 ghost use Prim.Native.Nat.{_<_, _≤_};
-ghost use Rattle.event_admit_deliver_die.specs.AdmitDeliverDie.{died};
-ghost use Rattle.event_admit_deliver_die.specs.AdmitDeliverDieParts.{admitNumber, admitChange, deliverNumber, dieNumber};
+ghost use Rattle.event_admit_deliver_die.specs.AdmitDeliverDie.{admitNumber, deliverNumber, died, dieNumber};
+ghost use Rattle.event_admit_deliver_die.specs.AdmitDeliverDieParts.{admitChange};
 use protocol_change::Change;
 use protocol_change::Parts;
 use table::Job;

@@ -1,15 +1,17 @@
--- Document 01, "The table", event 7: "Notice a b: a is told that b is dead." Definitions only.
+-- Document 01, "The table", event 7: "Notice a b: a is told that b is dead.", with its own refusals. A proof that opens the event opens its number too
+-- (`unfolding`). Definitions only.
 use mathlib.Core.Bool.{Bool, not, cond, _&&_, _||_}
 use Prim.Native.Nat.{ℕ, _+_}
 use lib.Dec.{eqb}
 use Rattle.lists.specs.Scan.{upTo}
 use Rattle.table.specs.declared.Job.{Job}
+use Rattle.table.specs.declared.Machine.{Machine}
 use Rattle.table.specs.declared.Table.{Table}
 use Rattle.table.specs.declared.Answer.{Answer}
-use Rattle.table.specs.Views.{jobAt, machineAt, toldAt, withJob, withMachine, withTold, refuse}
+use Rattle.table.specs.Views.{jobAt, machineAt, toldAt, withJob, withMachine, withTold}
 use Rattle.table.specs.Pools.{enter, returned}
 use Rattle.table.specs.Messages.{keepMessages, notFrom}
-use Rattle.table.specs.Parts.{opened, waiting, lives, accept, OPEN}
+use Rattle.table.specs.Parts.{opened, waiting, judged, OPEN}
 
 -- "a is told that b is dead. Undelivered messages from b to a are dropped."
 unfoldable pub informed : Table → ℕ → ℕ → Table
@@ -44,10 +46,14 @@ reissue t b = upTo (λ j u. reissueOne (jobAt t j) b j u) 64 t
 unfoldable pub noticed : Table → ℕ → ℕ → Table
 noticed t a b = cond (eqb a 0) (reissue (noticeLocal t a b) b) (noticeLocal t a b)
 
--- 12 a dead; 21 b alive; 22 a already told
+-- 12 a dead; 21 b alive; 22 a already told. Machine a is n, machine b is d; told says whether a was told that b is dead
+unfoldable pub noticeNumber : Machine → Machine → ℕ → ℕ
+noticeNumber n d told =
+    cond (not (eqb (n .alive) 1)) 12
+    (cond (eqb (d .alive) 1) 21
+    (cond (not (eqb told 0)) 22 0))
+
+-- event 7, by its number
 unfoldable pub noticeOf : Table → ℕ → ℕ → Answer
-noticeOf t a b =
-    cond (not (lives t a)) (refuse 12 t)
-    (cond (lives t b) (refuse 21 t)
-    (cond (not (eqb (toldAt t a b) 0)) (refuse 22 t)
-    (accept (noticed t a b))))
+unfolding noticeNumber
+noticeOf t a b = judged t (noticeNumber (machineAt t a) (machineAt t b) (toldAt t a b)) (noticed t a b)

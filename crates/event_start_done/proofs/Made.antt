@@ -1,27 +1,28 @@
 -- Events 4 and 5 by parts are events 4 and 5 on the table. Assumes nothing.
-use mathlib.Core.Path.{_≡_}
+use mathlib.Core.Path.{_≡_, sym}
 use Prim.Native.Nat.{ℕ}
 use Rattle.pricer.specs.Price.{priceBits}
 use Rattle.table.specs.declared.Machine.{Machine}
 use Rattle.table.specs.declared.Table.{Table}
 use Rattle.table.specs.Views.{noMessage, bondAt, machineAt, poolAt}
 use Rattle.table.specs.Parts.{running, result}
+use Rattle.table.proofs.Refusals.{judged-number}
 use Rattle.protocol_change.specs.Change.{partsAt, sendSome, made}
-use Rattle.protocol_change.proofs.Made.{number-cond, made-machine, made-machine-cell}
-use Rattle.event_start_done.specs.StartDone.{started, startOf, finished, doneOf}
-use Rattle.event_start_done.specs.StartDoneParts.{startNumber, startChange, doneNumber, doneChange}
+use Rattle.protocol_change.proofs.Made.{made-machine, made-machine-cell}
+use Rattle.event_start_done.specs.StartDone.{started, startNumber, startOf, finished, doneNumber, doneOf}
+use Rattle.event_start_done.specs.StartDoneParts.{startChange, doneChange}
 
 pub start-number : (t : Table) (a b : ℕ) → startNumber (machineAt t a) (poolAt t a b) ≡ startOf t a b .number
-unfolding startNumber startOf
-start-number t a b = simp number-cond
+unfolding startOf
+start-number t a b = sym (judged-number t _ (started t a b))
 
 pub made-started : (t : Table) (a b : ℕ) → made t a b (startChange (partsAt t a b) b) ≡ started t a b
 unfolding startChange partsAt sendSome started
 made-started t a b = made-machine-cell t a b (running (machineAt t a) b (poolAt t a b)) 0 noMessage
 
 pub done-number : (t : Table) (a : ℕ) → doneNumber (machineAt t a) (t .«in_flight») ≡ doneOf t a .number
-unfolding doneNumber doneOf
-done-number t a = simp number-cond
+unfolding doneOf
+done-number t a = sym (judged-number t _ (finished t a))
 
 -- whichever job the parts hold: Done leaves it as it was
 pub made-finished : (t : Table) (a j : ℕ)

@@ -1,7 +1,8 @@
 // Events 4 and 5 by the parts of a table that they look at: Start and Done. An event is a number, by the chain of its refusals in document 01's
 // order, and the change that it makes where that number is 0.
 ghost use mathlib.Core.Path.{_≡_};
-ghost use Rattle.event_start_done.specs.StartDoneParts.{startNumber, startChange, doneNumber, doneChange};
+ghost use Rattle.event_start_done.specs.StartDone.{startNumber, doneNumber};
+ghost use Rattle.event_start_done.specs.StartDoneParts.{startChange, doneChange};
 use protocol_change::Change;
 use protocol_change::Parts;
 use table::Machine;

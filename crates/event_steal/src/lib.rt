@@ -2,7 +2,8 @@
 // number is 0.
 ghost use mathlib.Core.Path.{_≡_};
 ghost use Prim.Native.Nat.{_<_};
-ghost use Rattle.event_steal.specs.StealParts.{stealNumber, stealChange};
+ghost use Rattle.event_steal.specs.Steal.{stealNumber};
+ghost use Rattle.event_steal.specs.StealParts.{stealChange};
 use protocol_change::Change;
 use protocol_change::Parts;
 use table::Machine;

@@ -1,20 +1,13 @@
--- A change made on a table, where some of its parts are as they were; the number of an answer that is chosen. Assumes nothing.
-use mathlib.Core.Path.{_≡_, refl}
-use mathlib.Core.Bool.{Bool, true, false, cond}
+-- A change made on a table, where some of its parts are as they were. Assumes nothing.
+use mathlib.Core.Path.{_≡_}
 use Prim.Native.Nat.{ℕ, _+_, _*_}
 use lib.Seq.{set-getD}
 use Rattle.table.specs.declared.Job.{Job}
 use Rattle.table.specs.declared.Machine.{Machine}
 use Rattle.table.specs.declared.Message.{Message}
 use Rattle.table.specs.declared.Table.{Table}
-use Rattle.table.specs.declared.Answer.{Answer}
 use Rattle.table.specs.Views.{noJob, noMachine, jobAt, machineAt, poolAt, withJob, withMachine, withPool, parts}
 use Rattle.protocol_change.specs.Change.{partsAt, sendSome, made, silent}
-
--- the number of the answer chosen is the number chosen
-pub number-cond : (c : Bool) (x y : Answer) → cond c x y .number ≡ cond c (x .number) (y .number)
-number-cond true x y = refl
-number-cond false x y = refl
 
 module _ (t : Table) (m j : ℕ) where
   -- nothing changes

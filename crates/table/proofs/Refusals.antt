@@ -1,17 +1,17 @@
 -- The number of a refused event, as a test with the laws that callers use, and an event's answer by cases: refused or accepted.
 -- Assumes nothing.
 use Prim.Native.Nat.{ℕ, _≤_}
-use mathlib.Core.Path.{_≡_, refl}
+use mathlib.Core.Path.{_≡_, refl, sym}
 use mathlib.Core.Logic.{_≢_}
 use mathlib.Core.Bool.{Bool, true, _&&_}
 use native.Mathlib.Omega.{arith}
-use borrow.Author.Tests.{leb-true, le-leb}
-use lib.Dec.{leb}
-use Rattle.lists.proofs.Cases.{and-left, and-right}
+use borrow.Author.Tests.{eqb-true, leb-true, le-leb}
+use lib.Dec.{eqb, leb}
+use Rattle.lists.proofs.Cases.{byBool, and-left, and-right}
 use Rattle.table.specs.declared.Answer.{Answer}
 use Rattle.table.specs.declared.Table.{Table}
 use Rattle.table.specs.Views.{refuse}
-use Rattle.table.specs.Parts.{accept}
+use Rattle.table.specs.Parts.{accept, judged}
 
 -- at least `least`, which is 10 on a table that passes check 9 and 9 on any, and of two digits at most
 abbrev pub isRefusal : ℕ → ℕ → Bool
@@ -41,3 +41,7 @@ Judged t D u o = (P : Answer → Type 0) → ((n : ℕ) → isRefusal 10 n ≡ t
 pub accepted : (t : Table) (D : Type 0) (u : Table) (o : Answer) → Judged t D u o → o .number ≡ 0 → D × (accept u ≡ o)
 accepted t D u o by =
     by (λ x. x .number ≡ 0 → D × (accept u ≡ x)) (λ n r z. absurd (refused-nonzero 10 n (omega arith) r z)) (λ d z. (d, refl))
+
+-- an event is answered its number
+pub judged-number : (t : Table) (n : ℕ) (u : Table) → judged t n u .number ≡ n
+judged-number t n u = byBool (eqb n 0) (λ e. rw e (sym (eqb-true n 0 e))) (λ e. rw e refl)

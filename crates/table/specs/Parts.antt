@@ -1,6 +1,6 @@
 -- One-part updates of a job and of a machine, the copies and messages that they speak of, and what an event answers. The updates are opaque: a proof
 -- of code unfolds them by the one name `pieces`.
-use mathlib.Core.Bool.{Bool, not, _&&_}
+use mathlib.Core.Bool.{Bool, not, cond, _&&_}
 use Prim.Native.Nat.{ℕ}
 use lib.Dec.{eqb}
 use Rattle.table.specs.declared.Job.{Job}
@@ -154,3 +154,7 @@ result f j r bits = record { kind = RESULT; from = f; to = 0; job = j; replica =
 -- "An accepted event returns 0."
 abbrev pub accept : Table → Answer
 accept u = refuse 0 u
+
+-- the answer of an event that has the number n on t, and makes u of t where it is accepted
+abbrev pub judged : Table → ℕ → Table → Answer
+judged t n u = cond (eqb n 0) (accept u) (refuse n t)

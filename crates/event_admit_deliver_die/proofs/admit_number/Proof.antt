@@ -1,7 +1,7 @@
 -- `event_admit_deliver_die::admit_number` meets its contract. The refusal is that of the definition.
 -- Assumes nothing.
 use Rattle.lists.proofs.Rules.{flags}
-use Rattle.event_admit_deliver_die.specs.AdmitDeliverDieParts.{admitNumber}
+use Rattle.event_admit_deliver_die.specs.AdmitDeliverDie.{admitNumber}
 use Rattle.event_admit_deliver_die.proofs.admit_number.Statement.{statement}
 use Rattle.event_admit_deliver_die.proofs.admit_number.Tie as tie
 

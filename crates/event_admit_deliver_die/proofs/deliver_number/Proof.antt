@@ -1,7 +1,7 @@
 -- `event_admit_deliver_die::deliver_number` meets its contract. The refusal is that of the definition.
 -- Assumes nothing.
 use Rattle.lists.proofs.Rules.{flags}
-use Rattle.event_admit_deliver_die.specs.AdmitDeliverDieParts.{deliverNumber}
+use Rattle.event_admit_deliver_die.specs.AdmitDeliverDie.{deliverNumber}
 use Rattle.event_admit_deliver_die.proofs.deliver_number.Statement.{statement}
 use Rattle.event_admit_deliver_die.proofs.deliver_number.Tie as tie
 

@@ -1,7 +1,7 @@
 -- `event_admit_deliver_die::die_number` meets its contract. The two refusals come in the order of the definition.
 -- Assumes nothing.
 use Rattle.lists.proofs.Rules.{flags}
-use Rattle.event_admit_deliver_die.specs.AdmitDeliverDieParts.{dieNumber}
+use Rattle.event_admit_deliver_die.specs.AdmitDeliverDie.{dieNumber}
 use Rattle.event_admit_deliver_die.proofs.die_number.Statement.{statement}
 use Rattle.event_admit_deliver_die.proofs.die_number.Tie as tie
 

@@ -1,7 +1,7 @@
 -- `event_notice::notice_number` meets its contract. The three refusals come in the order of the definition.
 -- Assumes nothing.
 use Rattle.lists.proofs.Rules.{flags}
-use Rattle.event_notice.specs.NoticeParts.{noticeNumber}
+use Rattle.event_notice.specs.Notice.{noticeNumber}
 use Rattle.event_notice.proofs.notice_number.Statement.{statement}
 use Rattle.event_notice.proofs.notice_number.Tie as tie
 

@@ -1,7 +1,7 @@
 -- `event_start_done::done_number` meets its contract. The three refusals come in the order of the definition.
 -- Assumes nothing.
 use Rattle.lists.proofs.Rules.{flags}
-use Rattle.event_start_done.specs.StartDoneParts.{doneNumber}
+use Rattle.event_start_done.specs.StartDone.{doneNumber}
 use Rattle.event_start_done.proofs.done_number.Statement.{statement}
 use Rattle.event_start_done.proofs.done_number.Tie as tie
 

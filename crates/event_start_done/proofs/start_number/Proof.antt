@@ -1,7 +1,7 @@
 -- `event_start_done::start_number` meets its contract. The three refusals come in the order of the definition.
 -- Assumes nothing.
 use Rattle.lists.proofs.Rules.{flags}
-use Rattle.event_start_done.specs.StartDoneParts.{startNumber}
+use Rattle.event_start_done.specs.StartDone.{startNumber}
 use Rattle.event_start_done.proofs.start_number.Statement.{statement}
 use Rattle.event_start_done.proofs.start_number.Tie as tie
 

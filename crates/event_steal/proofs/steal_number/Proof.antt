@@ -1,7 +1,7 @@
 -- `event_steal::steal_number` meets its contract. The five refusals come in the order of the definition.
 -- Assumes nothing.
 use Rattle.lists.proofs.Rules.{flags}
-use Rattle.event_steal.specs.StealParts.{stealNumber}
+use Rattle.event_steal.specs.Steal.{stealNumber}
 use Rattle.event_steal.proofs.steal_number.Statement.{statement}
 use Rattle.event_steal.proofs.steal_number.Tie as tie
 
