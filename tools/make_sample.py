@@ -1,5 +1,5 @@
 #!/usr/bin/python3
-"""Writes the data and the output of the programs that print a page: rakhvide, rakhvide_sample and four more.
+"""Writes the data and the output of the programs that print a page: rakhvide, rakhvide_sample and five more.
 
 To run, at the root of the repository: /usr/bin/python3 tools/make_sample.py
 It needs Python's standard library only (last run with Python 3.11).
@@ -15,11 +15,12 @@ Each is the same program on other data:
     test_refused_book   a book whose second entry has a wrong check digit and whose third has another form
     test_long_list      20,000 events, of which the last is refused, and two more that are not read
     test_broken_event   a last event of two bytes
+    test_turned_back    steals that are turned back, for each reason alone and for two at once
 
 The events of rakhvide_sample are chosen at random, with a fixed seed, by way of the table of model.py, which is documents 01 and 02
 in Python and shares nothing with the crates; its page is the model's, but the prices are decided by exact rational arithmetic whose
 every operation is rounded once to the nearest binary64, ties to even. The other pages are written here by hand from document 01's
-text, "The program's page". The script fails where a price or a page of the model differs.
+text, "The program's page", and that of test_turned_back from document 02's, 2.5. The script fails where a price or a page of the model differs.
 
 The bonds are invented; their identifiers have the form and the check digit of ISO 6166. The result depends on nothing else.
 """
@@ -114,6 +115,31 @@ def broken_event() -> Program:
     return Program("test_broken_event", books.book_of(2, LISTING_BONDS), lists.make(text), page)
 
 
+def turned_back() -> Program:
+    """14 thief is victim, 24 thief already waits, 25 thief was told the victim is dead, in this order and after 12."""
+    listed = [
+        (0, "admit 0"),
+        (14, "steal 1 from 1"),
+        (0, "steal 1 from 0"),
+        (24, "steal 1 from 2"),  # it waits
+        (14, "steal 1 from 1"),  # and is the victim: 14 comes first
+        (0, "die 2"), (0, "notice 1 of 2"),
+        (24, "steal 1 from 2"),  # it waits, and was told: 24 comes first
+        (0, "deliver 1 to 0"), (0, "deliver 0 to 0"), (0, "deliver 0 to 0"), (0, "deliver 0 to 1"),  # it has the bond and waits no more
+        (25, "steal 1 from 2"),
+        (14, "steal 1 from 1"),
+        (12, "steal 2 from 2"),  # dead, and the victim: 12 comes first
+        (0, "steal 0 from 2"),  # the victim is dead, but the root was not told
+        (24, "steal 0 from 2"),
+        (0, "notice 0 of 2"),  # it waits no more
+        (25, "steal 0 from 2"),
+        (0, "start 1 job 0"), (0, "done 1"), (0, "deliver 1 to 0"), (0, "deliver 1 to 0"),  # ACK and RESULT
+    ]
+    page = "".join(f"event {k} refused {number}\n" for k, (number, _) in enumerate(listed, 1) if number)
+    page += "ZZ0000000016 priced 405A000000000000 replica 1\nZZ0000000024 not admitted\n"
+    return Program("test_turned_back", books.book_of(3, LISTING_BONDS), lists.make("".join(event + "\n" for _, event in listed)), page)
+
+
 # The sample close.
 
 
@@ -204,7 +230,7 @@ def write(program: Program) -> None:
 
 
 def main() -> None:
-    for program in (listing(), sample_close(), no_files(), refused_book(), long_list(), broken_event()):
+    for program in (listing(), sample_close(), no_files(), refused_book(), long_list(), broken_event(), turned_back()):
         write(program)
 
 

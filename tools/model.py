@@ -81,7 +81,8 @@ def price_of(entry: books.Entry) -> float:
     return p
 
 
-# "Where each refusal is checked": the rows of the events, each from left to right, as number, condition and test.
+# "Where each refusal is checked": the rows of the events, each from left to right, as number, condition and test. 24 and 25 are
+# document 02's, 2.5: "24, thief already waits, after 14; 25, thief was told the victim is dead, after 24".
 Refusal = tuple[int, str, collections.abc.Callable[["Table", int, int], bool]]
 REFUSALS: dict[str, list[Refusal]] = {
     "admit": [
@@ -89,8 +90,8 @@ REFUSALS: dict[str, list[Refusal]] = {
     "steal": [
         (12, "the thief is dead", lambda t, a, b: not t.machines[a].alive),
         (14, "the thief is the victim", lambda t, a, b: a == b),
-        (14, "the thief waits already", lambda t, a, b: t.machines[a].waits is not None),
-        (14, "the thief was told the victim is dead", lambda t, a, b: b in t.machines[a].told),
+        (24, "the thief waits already", lambda t, a, b: t.machines[a].waits is not None),
+        (25, "the thief was told the victim is dead", lambda t, a, b: b in t.machines[a].told),
         (16, "128 messages in flight", lambda t, a, b: t.is_full())],
     "deliver": [
         (15, "none in flight", lambda t, a, b: not t.between(a, b))],

@@ -78,7 +78,9 @@ REFUSALS = [
     *((11, event) for event in ("admit 2", "steal 3 from 0", "steal 0 from 3", "deliver 3 to 0", "deliver 0 to 3", "start 3 job 0", "start 0 job 2",
                                 "done 3", "die 3", "notice 3 of 0", "notice 0 of 3")),
     (13, "admit 0", "admit 0"),
-    (12, "steal 1 from 1", "die 1"), (14, "steal 1 from 1"), (14, "steal 1 from 2", "steal 1 from 0"), (14, "steal 1 from 2", "die 2", "notice 1 of 2"),
+    (12, "steal 1 from 1", "die 1"), (14, "steal 1 from 1"), (14, "steal 1 from 1", "steal 1 from 0"),
+    (24, "steal 1 from 2", "steal 1 from 0"), (24, "steal 1 from 0", "steal 1 from 0"), (24, "steal 1 from 2", "die 2", "notice 1 of 2", "steal 1 from 0"),
+    (25, "steal 1 from 2", "die 2", "notice 1 of 2"), (25, "steal 1 from 2", "steal 1 from 2", "die 2", "notice 1 of 2"),
     (15, "deliver 0 to 1"), (15, "deliver 0 to 1", "steal 1 from 0"), (15, "deliver 1 to 2", "steal 1 from 2", "die 2"),
     (12, "start 1 job 0", "admit 0", "die 1"), (17, "start 0 job 0", "admit 0", "start 0 job 0"), (18, "start 1 job 0", "admit 0"),
     (12, "done 1", "die 1"), (19, "done 0", "admit 0"),
@@ -814,7 +816,8 @@ class Model(Folder):
 
     def test_programs(self):
         """The pages that the programs must print; test_no_files has no folder of data."""
-        for crate, status in (("rakhvide", 0), ("rakhvide_sample", 0), ("test_refused_book", 3), ("test_long_list", 0), ("test_broken_event", 0)):
+        for crate, status in (("rakhvide", 0), ("rakhvide_sample", 0), ("test_refused_book", 3), ("test_long_list", 0), ("test_broken_event", 0),
+                              ("test_turned_back", 0)):
             done = tool("model.py", CRATES / crate / "data")
             self.assertEqual((done.stdout, done.returncode), ((CRATES / crate / "stdout").read_bytes(), status))
             self.assertEqual(b"events.bin has 20002 events: the first 20000 are read\n" in done.stderr, crate == "test_long_list")
@@ -1004,8 +1007,14 @@ class Picture(Folder):
         self.assertEqual(sum(f"refused {number}:" in text for number in set(numbers) for text in words), len(numbers))
 
     def test_programs(self):
-        for crate in ("rakhvide", "rakhvide_sample"):
+        for crate in ("rakhvide", "rakhvide_sample", "test_turned_back"):
             self.assert_complete(*model.read_folder(CRATES / crate / "data")[:2])
+
+    def test_a_turned_back_steal_says_why(self):
+        words = self.drawn(*model.read_folder(CRATES / "test_turned_back" / "data")[:2])
+        for count, note in ((3, "refused 14: the thief is the victim"), (3, "refused 24: the thief waits already"),
+                            (2, "refused 25: the thief was told the victim is dead")):
+            self.assertEqual(sum(text.startswith(note) for text in words), count)
 
     def test_random_runs(self):
         for seed, machines, entries, count in ((1, 2, 1, 80), (2, 2, 0, 5), (3, 16, 64, 300), (4, 5, 9, 400), (5, 3, 4, 0), (6, 8, 20, 200)):

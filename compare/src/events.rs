@@ -58,10 +58,14 @@ fn admit(table: &mut Table, a: u8) -> Answer {
     Ok(())
 }
 
-/// "thief a sends FISH to b and waits on b."
+/// "thief a sends FISH to b and waits on b." The three numbers in the middle are document 02's, 2.5: "14 now
+/// means only that thief and victim are the same. [..] 24, thief already waits, after 14; 25, thief was told
+/// the victim is dead, after 24."
 fn steal(table: &mut Table, a: u8, b: u8) -> Answer {
     refuse(!table.alive(a), 12)?;
-    refuse(a == b || table.machine[usize::from(a)].waits != 0 || table.was_told(a, b), 14)?;
+    refuse(a == b, 14)?;
+    refuse(table.machine[usize::from(a)].waits != 0, 24)?;
+    refuse(table.was_told(a, b), 25)?;
     refuse(table.full(), 16)?;
     table.send(Message { kind: FISH, from: a, to: b, ..Message::NONE });
     table.machine[usize::from(a)].waits = b + 1;
@@ -291,5 +295,19 @@ mod tests {
         assert_eq!(refused(&[5, 0, 0]), 19);
         assert_eq!(refused(&[6, 0, 0]), 20);
         assert_eq!(refused(&[7, 0, 1]), 21);
+    }
+
+    #[test]
+    fn three_reasons_of_a_steal() {
+        assert_eq!(step(&mut played(&[]), &[2, 0, 0]), 14);
+        let mut waiting = played(&[[2, 0, 1]]);
+        assert_eq!(step(&mut waiting, &[2, 0, 0]), 14);
+        assert_eq!(step(&mut waiting, &[2, 0, 1]), 24);
+        let mut told = played(&[[6, 1, 0], [7, 0, 1]]);
+        assert_eq!(step(&mut told, &[2, 0, 0]), 14);
+        assert_eq!(step(&mut told, &[2, 0, 1]), 25);
+        assert_eq!(step(&mut told, &[2, 1, 1]), 12);
+        told.machine[0].waits = 2;
+        assert_eq!(step(&mut told, &[2, 0, 1]), 24);
     }
 }

@@ -26,8 +26,8 @@ module _ (t : Table) (a b : ℕ) (h : a < t .«machine_count») (k : b < t .«ma
   by-steal P refused f =
       byBool (not (lives t a)) (λ e. rw (e, stealOf) (refused 12 refl))
       (λ e1. byBool (eqb a b) (λ e. rw (e1, e, stealOf) (refused 14 refl))
-      (λ e2. byBool (not (eqb (machineAt t a .waits) 0)) (λ e. rw (e1, e2, e, stealOf) (refused 14 refl))
-      (λ e3. byBool (not (eqb (toldAt t a b) 0)) (λ e. rw (e1, e2, e3, e, stealOf) (refused 14 refl))
+      (λ e2. byBool (not (eqb (machineAt t a .waits) 0)) (λ e. rw (e1, e2, e, stealOf) (refused 24 refl))
+      (λ e3. byBool (not (eqb (toldAt t a b) 0)) (λ e. rw (e1, e2, e3, e, stealOf) (refused 25 refl))
       (λ e4. byBool (leb 128 (t .«in_flight»)) (λ e. rw (e1, e2, e3, e4, e, stealOf) (refused 16 refl))
       (λ e5. rw (e1, e2, e3, e4, e5, stealOf)
       (f (record {

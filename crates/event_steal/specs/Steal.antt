@@ -1,5 +1,5 @@
--- Document 01, "The table", event 2, with its own refusals in the order of "Where each refusal is checked". What the dispatcher has tested before
--- (9, 10, 11) is not tested again. A proof that opens an event opens its number too (`unfolding`). Definitions only.
+-- Document 01, "The table", event 2, with its own refusals in the order of "Where each refusal is checked"; 24 and 25 are document 02's, 2.5. What the
+-- dispatcher has tested before (9, 10, 11) is not tested again. A proof that opens an event opens its number too (`unfolding`). Definitions only.
 use mathlib.Core.Bool.{not, cond}
 use Prim.Native.Nat.{ℕ, _+_}
 use lib.Dec.{eqb, leb}
@@ -14,14 +14,14 @@ use Rattle.table.specs.Parts.{waiting, message, FISH, judged}
 unfoldable pub stolen : Table → ℕ → ℕ → Table
 stolen t a b = send (withMachine t a (waiting (machineAt t a) (b + 1))) (message FISH a b 0 0 0)
 
--- 12 thief dead; 14 thief is victim, or waits already, or was told the victim is dead; 16 128 messages in flight. Thief a is n; told says whether it
--- was told that b is dead, used how many messages are in flight
+-- 12 thief dead; "14 now means only that thief and victim are the same"; "24, thief already waits, after 14; 25, thief was told the victim is dead,
+-- after 24"; 16 128 messages in flight. Thief a is n; told says whether it was told that b is dead, used how many messages are in flight
 unfoldable pub stealNumber : Machine → ℕ → ℕ → ℕ → ℕ → ℕ
 stealNumber n told used a b =
     cond (not (eqb (n .alive) 1)) 12
     (cond (eqb a b) 14
-    (cond (not (eqb (n .waits) 0)) 14
-    (cond (not (eqb told 0)) 14
+    (cond (not (eqb (n .waits) 0)) 24
+    (cond (not (eqb told 0)) 25
     (cond (leb 128 used) 16 0))))
 
 -- event 2, by its number

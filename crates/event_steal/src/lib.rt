@@ -20,10 +20,10 @@ pub fn steal_number(n: Machine, told: u8, used: u8, a: u8, b: u8) -> u8
         return 14;
     }
     if n.waits != 0 {
-        return 14;
+        return 24;
     }
     if told != 0 {
-        return 14;
+        return 25;
     }
     if 128 <= used {
         return 16;

@@ -283,6 +283,17 @@ fn extend_list(rng: &mut Rng, list: &mut Vec<u8>, table: &Table) {
     list.extend(&end[..rng.below(3)]);
 }
 
+/// Which of the conditions of `STEAL` hold for a steal whose numbers are those of machines.
+fn steal_conditions(table: &Table, event: &[u8]) -> Option<[bool; 5]> {
+    match *event {
+        [2, a, b, ..] if a.max(b) < table.machines => {
+            let waits = table.machine[usize::from(a)].waits != 0;
+            Some([!table.alive(a), a == b, waits, table.was_told(a, b), table.full()])
+        }
+        _ => None,
+    }
+}
+
 /// One event on both; number and all bytes afterwards are compared.
 fn step(trial: &mut Trial, table: &mut Table, snapshot: &mut Vec<u8>, event: &[u8]) -> Result<u8, String> {
     let oldest = match *event {
@@ -290,12 +301,16 @@ fn step(trial: &mut Trial, table: &mut Table, snapshot: &mut Vec<u8>, event: &[u
         _ => None,
     };
     let before = oldest.map(|_| table.clone());
+    let held = steal_conditions(table, event);
     let number = events::step(table, event);
     let library = trial.library.step(snapshot, event);
     same(&format!("{event:?}"), library, number)?;
     same_bytes(&format!("{event:?} answered {number}"), snapshot, &table.to_bytes())?;
     if let (Some(message), Some(before), 0) = (oldest, before, number) {
         trial.coverage.delivered(&message, &before, table);
+    }
+    if let Some(held) = held {
+        trial.coverage.stolen(held);
     }
     Ok(number)
 }

@@ -9,16 +9,30 @@ pub const KINDS: [&str; 10] =
     ["", "FISH", "REQ", "AUTH", "DENIED", "OBSOLETE", "SCHEDULE", "ACK", "NOWORK", "RESULT"];
 const EVENTS: [&str; 8] = ["none", "Admit", "Steal", "Deliver", "Start", "Done", "Die", "Notice"];
 
-/// The numbers that each event can get on a table that passes check 9, document 01's last table.
+/// The numbers that each event can get on a table that passes check 9: document 01's last table, and
+/// document 02, 2.5, for Steal.
 const EXPECTED: [&[u8]; 8] = [
     &[10],
     &[0, 10, 11, 13],
-    &[0, 10, 11, 12, 14, 16],
+    &[0, 10, 11, 12, 14, 16, 24, 25],
     &[0, 10, 11, 15],
     &[0, 10, 11, 12, 17, 18],
     &[0, 10, 11, 12, 16, 19],
     &[0, 10, 11, 12, 20],
     &[0, 10, 11, 12, 21, 22],
+];
+
+/// The conditions of Steal's refusals, in their order, and the pairs of them to be met in one steal, as no
+/// other holds before the first.
+pub const STEAL: [&str; 5] = ["dead", "same", "waits", "told", "full"];
+const STEAL_PAIRS: [(&str, &str); 7] = [
+    ("dead", "same"),
+    ("dead", "told"),
+    ("same", "waits"),
+    ("same", "full"),
+    ("waits", "told"),
+    ("waits", "full"),
+    ("told", "full"),
 ];
 
 /// What can come of a delivered message: the kind of the message that is sent, or what else changes.
@@ -100,14 +114,17 @@ fn writer_names() -> impl Iterator<Item = &'static str> {
     REFUSED_BOOKS.into_iter().chain(WRITER)
 }
 
+/// The largest number of an event.
+const LARGEST: usize = 25;
+
 /// Answers by event code (0: no code of document 01) and number.
 #[derive(Default)]
-pub struct Answers([[u64; 23]; 8]);
+pub struct Answers([[u64; LARGEST + 1]; 8]);
 
 impl Answers {
     pub fn count(&mut self, event: &[u8], number: u8) {
         let code = event.first().filter(|code| (1..=7).contains(*code)).map_or(0, |code| *code);
-        self.0[usize::from(code)][usize::from(number).min(22)] += 1;
+        self.0[usize::from(code)][usize::from(number).min(LARGEST)] += 1;
     }
 
     fn print(&self, title: &str) {
@@ -151,6 +168,8 @@ pub struct Coverage {
     /// Events of runs, and those given to damaged tables.
     pub answers: Answers,
     pub damaged_answers: Answers,
+    /// Steals with more than one condition of `STEAL`, by the first two.
+    pub steals: BTreeMap<(&'static str, &'static str), u64>,
     /// Messages handled, by kind and what came of it.
     pub handled: BTreeMap<(u8, &'static str), u64>,
     pub most_in_flight: u8,
@@ -175,6 +194,14 @@ impl Coverage {
             "nothing"
         };
         *self.handled.entry((message.kind, outcome)).or_default() += 1;
+    }
+
+    /// A steal for which these conditions of `STEAL` hold.
+    pub fn stolen(&mut self, held: [bool; 5]) {
+        let mut names = STEAL.into_iter().zip(held).filter(|(_, held)| *held).map(|(name, _)| name);
+        if let (Some(first), Some(second)) = (names.next(), names.next()) {
+            *self.steals.entry((first, second)).or_default() += 1;
+        }
     }
 
     /// Something of `BELOW_ZERO` was met so many times.
@@ -229,6 +256,10 @@ impl Coverage {
             self.runs, self.pages, self.longest_page
         );
         self.answers.print("answers to the events of runs");
+        println!("steals with more than one reason to be refused, by the first two");
+        for ((first, second), count) in &self.steals {
+            println!("  {first:5} {second:23} {count}");
+        }
         println!("most messages in flight {}; largest replica {}", self.most_in_flight, self.largest_replica);
         println!("messages handled, by what came of them");
         for ((kind, outcome), count) in &self.handled {
@@ -273,6 +304,8 @@ impl Coverage {
             OUTCOMES.iter().flat_map(|(kind, all)| all.iter().map(move |outcome| (*kind, *outcome)));
         let never = outcomes.filter(|outcome| !self.handled.contains_key(outcome));
         missing.extend(never.map(|(kind, outcome)| format!("{} {outcome}", KINDS[usize::from(kind)])));
+        let never = STEAL_PAIRS.iter().filter(|pair| !self.steals.contains_key(*pair));
+        missing.extend(never.map(|(first, second)| format!("Steal: {first}, {second}")));
         missing.extend((1..=7u8).filter(|n| self.books[usize::from(*n)] == 0).map(|n| format!("book {n}")));
         let never = BELOW_ZERO.iter().filter(|name| !self.below_zero.contains_key(*name));
         missing.extend(never.map(|name| format!("yield below 0: {name}")));

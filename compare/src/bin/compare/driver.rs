@@ -48,7 +48,7 @@ impl Driver {
                 driver.planned = 97;
                 driver.weights[6] = 0;
                 driver.noise = 1;
-                driver.plan_flood();
+                driver.plan_flood(rng, table);
             }
         }
         driver
@@ -81,8 +81,15 @@ impl Driver {
     }
 
     /// All jobs go by machine 2 to machine 1, whose messages to the root stay in flight: an ACK and a RESULT
-    /// for each.
-    fn plan_flood(&mut self) {
+    /// for each. At the end every machine steals from itself. In some floods machine 3 is dead before, and
+    /// at the end they steal from it too, those who were told of it and those who were not.
+    fn plan_flood(&mut self, rng: &mut Rng, table: &Table) {
+        let with_dead = table.machines > 3 && rng.chance(1, 2);
+        if with_dead {
+            self.plan.push_back(Task::Event([6, 3, 0]));
+            let told = (0..table.machines).filter(|_| rng.chance(1, 2));
+            self.plan.extend(told.map(|machine| Task::Event([7, machine, 3])));
+        }
         for job in 0..ENTRIES as u8 {
             self.plan.push_back(Task::Event([1, job, 0]));
         }
@@ -91,6 +98,10 @@ impl Driver {
         for job in 0..ENTRIES as u8 {
             self.plan.push_back(Task::Event([4, 1, job]));
             self.plan.push_back(Task::Event([5, 1, 0]));
+        }
+        self.plan.extend((0..table.machines).map(|machine| Task::Event([2, machine, machine])));
+        if with_dead {
+            self.plan.extend((0..table.machines).map(|machine| Task::Event([2, machine, 3])));
         }
         self.blocked = Some((1, 0));
     }

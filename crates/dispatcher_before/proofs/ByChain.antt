@@ -1,0 +1,100 @@
+-- One event as it was answered and as it is: a steal, or one that is answered alike, with none of the three reasons. Assumes nothing.
+use Prim.Native.Nat.{ℕ, _≤_, _<_}
+use mathlib.Core.Path.{_≡_, refl, sym, ap, _∙_}
+use mathlib.Core.Bool.{Bool, true, false, not, cond}
+use mathlib.Core.List.{List}
+use borrow.Author.Tests.{not-false}
+use lib.Dec.{eqb, leb}
+use Rattle.lists.proofs.Cases.{byBool}
+use Rattle.table.specs.declared.Job.{Job}
+use Rattle.table.specs.declared.Machine.{Machine}
+use Rattle.table.specs.declared.Table.{Table}
+use Rattle.table.specs.declared.Answer.{Answer}
+use Rattle.table.specs.Views.{jobAt, machineAt, toldAt, poolAt, refuse}
+use Rattle.table.specs.Messages.{oldest}
+use Rattle.table.specs.Parts.{NOT-ADMITTED}
+use Rattle.validity.specs.Validity.{tableOk}
+use Rattle.event_admit_deliver_die.specs.AdmitDeliverDie.{admitNumber, admitOf, deliverNumber, deliverOf, dieNumber, dieOf}
+use Rattle.event_admit_deliver_die.proofs.Made.{admit-number, deliver-number, die-number}
+use Rattle.event_steal.specs.Steal.{stealOf}
+use Rattle.event_start_done.specs.StartDone.{startNumber, startOf, doneNumber, doneOf}
+use Rattle.event_start_done.proofs.Made.{start-number, done-number}
+use Rattle.event_notice.specs.Notice.{noticeNumber, noticeOf}
+use Rattle.event_notice.proofs.Number.{notice-number}
+use Rattle.dispatcher.specs.Codes.{STEAL, lastCode}
+use Rattle.dispatcher.specs.Step.{codeOf, firstOf, secondOf, wellFormed, indicesInRange, eventOf, answerOf, stepOf}
+use Rattle.dispatcher.proofs.Form.{wellFormed-code}
+use Rattle.dispatcher.proofs.OnTable.{by-code}
+use Rattle.dispatcher_before.specs.Before.{stealBefore, eventBefore, answerBefore, stepBefore}
+use Rattle.dispatcher_before.specs.Reasons.{isReason}
+
+abbrev pub NoReason : ℕ → Type 0
+NoReason n = isReason n ≡ false
+
+-- ---- no other event gets one of the three
+
+-- up to three refusals by other numbers
+chain : (p q r : Bool) (k l m : ℕ) → NoReason k → NoReason l → NoReason m → NoReason (cond p k (cond q l (cond r m 0)))
+chain true q r k l m x y z = x
+chain false true r k l m x y z = y
+chain false false true k l m x y z = z
+chain false false false k l m x y z = refl
+
+admit-none : (v : Job) → NoReason (admitNumber v)
+unfolding admitNumber
+admit-none v = chain (not (eqb (v .state) NOT-ADMITTED)) false false 13 0 0 refl refl refl
+
+deliver-none : (used slot : ℕ) → NoReason (deliverNumber used slot)
+unfolding deliverNumber
+deliver-none used slot = chain (leb used slot) false false 15 0 0 refl refl refl
+
+start-none : (n : Machine) (cell : ℕ) → NoReason (startNumber n cell)
+unfolding startNumber
+start-none n cell = chain (not (eqb (n .alive) 1)) (not (eqb (n .«running_replica») 0)) (eqb cell 0) 12 17 18 refl refl refl
+
+done-none : (n : Machine) (used : ℕ) → NoReason (doneNumber n used)
+unfolding doneNumber
+done-none n used = chain (not (eqb (n .alive) 1)) (eqb (n .«running_replica») 0) (leb 128 used) 12 19 16 refl refl refl
+
+die-none : (a : ℕ) (n : Machine) → NoReason (dieNumber a n)
+unfolding dieNumber
+die-none a n = chain (eqb a 0) (not (eqb (n .alive) 1)) false 20 12 0 refl refl refl
+
+notice-none : (n d : Machine) (told : ℕ) → NoReason (noticeNumber n d told)
+unfolding noticeNumber
+notice-none n d told = chain (not (eqb (n .alive) 1)) (eqb (d .alive) 1) (not (eqb told 0)) 12 21 22 refl refl refl
+
+-- ---- by the code, and by 9, 10 and 11
+
+module _ (P : Answer → Answer → Type 0) (t : Table) (alike : (x : Answer) → NoReason (x .number) → P x x) where
+  -- an answer by its number, which is n
+  none : (n : ℕ) (x : Answer) → NoReason n → n ≡ x .number → P x x
+  none n x y e = alike x (sym (ap (λ (k : ℕ). isReason k) e) ∙ y)
+
+  by-event : (code a b : ℕ) → indicesInRange t code a b ≡ true → 1 ≤ code → code ≤ lastCode
+      → (a < t .«machine_count» → b < t .«machine_count» → code ≡ STEAL → P (stealBefore t a b) (stealOf t a b))
+      → P (eventBefore t code a b) (eventOf t code a b)
+  unfolding eventBefore eventOf
+  by-event code a b g l m steal =
+      by-code t code a b g l m (λ k o. code ≡ k → P (eventBefore t k a b) o) record {
+        admit = λ h c. none _ (admitOf t a) (admit-none (jobAt t a)) (admit-number t a);
+        steal = steal;
+        deliver = λ c. none _ (deliverOf t a b) (deliver-none (t .«in_flight») (oldest t a b)) (deliver-number t a b);
+        start = λ h k c. none _ (startOf t a b) (start-none (machineAt t a) (poolAt t a b)) (start-number t a b);
+        done = λ h k c. none _ (doneOf t a) (done-none (machineAt t a) (t .«in_flight»)) (done-number t a);
+        die = λ h k c. none _ (dieOf t a) (die-none a (machineAt t a)) (die-number t a);
+        notice = λ h k c. none _ (noticeOf t a b) (notice-none (machineAt t a) (machineAt t b) (toldAt t a b)) (notice-number t a b);
+      } refl
+
+  -- a steal that comes to its own refusals is on a table that passes check 9, and its numbers are those of machines
+  pub by-chain : (e : List ℕ)
+      → (tableOk t ≡ true → firstOf e < t .«machine_count» → secondOf e < t .«machine_count» → codeOf e ≡ STEAL
+      → P (stealBefore t (firstOf e) (secondOf e)) (stealOf t (firstOf e) (secondOf e)))
+      → P (stepBefore t e) (stepOf t e)
+  unfolding stepBefore stepOf answerBefore answerOf
+  by-chain e steal =
+      byBool (not (tableOk t)) (λ f. rw f (alike (refuse 9 t) refl))
+      (λ f. byBool (not (wellFormed e)) (λ g. rw (f, g) (alike (refuse 10 t) refl))
+      (λ g. byBool (not (indicesInRange t (codeOf e) (firstOf e) (secondOf e))) (λ h. rw (f, g, h) (alike (refuse 11 t) refl))
+      (λ h. let w = wellFormed-code e (not-false _ g) in
+      rw (f, g, h) (by-event (codeOf e) (firstOf e) (secondOf e) (not-false _ h) (w .0) (w .1) (steal (not-false _ f))))))

@@ -1,0 +1,2 @@
+pub mod ByChain
+pub mod Reasons

@@ -1,0 +1,62 @@
+-- Request 2.5: "14 now means only that thief and victim are the same. The steals that got 14 are the ones that get one of the three. New numbers: 24,
+-- thief already waits, after 14; 25, thief was told the victim is dead, after 24." The claim is `ThreeReasons`, over the answers as they were
+-- (Before.antt); its proof is in proofs/Reasons.antt. Definitions only.
+use Prim.Native.Nat.{ℕ}
+use mathlib.Core.Path.{_≡_}
+use mathlib.Core.Logic.{_≢_}
+use mathlib.Core.Bool.{Bool, true, cond, _||_}
+use mathlib.Core.List.{List, map}
+use lib.Dec.{eqb}
+use Rattle.table.specs.declared.Table.{Table}
+use Rattle.table.specs.declared.Answer.{Answer}
+use Rattle.table.specs.Views.{machineAt, toldAt}
+use Rattle.event_steal.specs.Steal.{stealOf}
+use Rattle.dispatcher.specs.Codes.{STEAL}
+use Rattle.dispatcher.specs.Step.{codeOf, firstOf, secondOf, stepOf, runOf, answersOf}
+use Rattle.dispatcher_before.specs.Before.{stealBefore, stepBefore, runBefore, answersBefore}
+
+-- "one of the three"
+abbrev pub isReason : ℕ → Bool
+isReason n = eqb n 14 || (eqb n 24 || eqb n 25)
+
+-- the number of before, where today's is n
+abbrev pub numberBefore : ℕ → ℕ
+numberBefore n = cond (isReason n) 14 n
+
+-- an answer as it was, and today's
+pub record Kept (before now : Answer) : Type 0 where
+  -- the number was the same, but that 14 was that of each of the three
+  pub number : before .number ≡ numberBefore (now .number)
+  -- so it was 14 exactly if it is one of the three,
+  pub got : before .number ≡ 14 → isReason (now .number) ≡ true
+  pub gets : isReason (now .number) ≡ true → before .number ≡ 14
+  -- and every other answer is as it was, number and table
+  pub other : before .number ≢ 14 → now ≡ before
+  -- the table is as it was whatever the number
+  pub table : now .table ≡ before .table
+
+-- what one of the three, n, says of thief a and victim b
+pub record Means (t : Table) (a b n : ℕ) : Type 0 where
+  -- the thief lives: 12 comes first
+  pub alive : machineAt t a .alive ≡ 1
+  -- "14 now means only that thief and victim are the same"
+  pub same : n ≡ 14 → a ≡ b
+  -- "24, thief already waits, after 14"
+  pub waits : n ≡ 24 → (a ≢ b) × (machineAt t a .waits ≢ 0)
+  -- "25, thief was told the victim is dead, after 24"
+  pub told : n ≡ 25 → (a ≢ b) × (machineAt t a .waits ≡ 0) × (toldAt t a b ≢ 0)
+  -- and it is dead, so that support can "tell a script that picks itself from one that picks a dead victim"
+  pub dead : n ≡ 25 → machineAt t b .alive ≢ 1
+
+pub record ThreeReasons : Type 0 where
+  -- "The steals that got 14 are the ones that get one of the three", whatever the table and the two numbers
+  pub steal : (t : Table) (a b : ℕ) → Kept (stealBefore t a b) (stealOf t a b)
+  -- the same of any event, on any table and any bytes
+  pub event : (t : Table) (e : List ℕ) → Kept (stepBefore t e) (stepOf t e)
+  -- it is a steal that gets one of the three, which then says why
+  pub means : (t : Table) (e : List ℕ) → isReason (stepOf t e .number) ≡ true
+      → (codeOf e ≡ STEAL) × Means t (firstOf e) (secondOf e) (stepOf t e .number)
+  -- a list of events leaves the table that it left,
+  pub run : (t : Table) (es : List (List ℕ)) → runOf t es ≡ runBefore t es
+  -- and each of its events got today's number, or 14 where that is one of the three
+  pub answers : (t : Table) (es : List (List ℕ)) → answersBefore t es ≡ map numberBefore (answersOf t es)
