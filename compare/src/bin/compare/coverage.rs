@@ -22,8 +22,8 @@ const EXPECTED: [&[u8]; 8] = [
     &[0, 10, 11, 12, 21, 22],
 ];
 
-/// The conditions of Steal's refusals, in their order, and the pairs of them to be met in one steal, as no
-/// other holds before the first.
+/// The conditions of Steal's refusals, in their order, and the pairs to be met: the first two that hold for
+/// one steal.
 pub const STEAL: [&str; 5] = ["dead", "same", "waits", "told", "full"];
 const STEAL_PAIRS: [(&str, &str); 7] = [
     ("dead", "same"),
