@@ -1,13 +1,10 @@
 //! Verdicts on identifiers of five sorts: the proved function and that of the second implementation.
 
+use crate::c::rakhvide_identifier;
 use crate::timing::{best, Work};
 use bench::Numbers;
 use second::isin;
 use std::hint::black_box;
-
-extern "C" {
-    fn rakhvide_identifier(identifier: *const u8, length: usize) -> u8;
-}
 
 type Identifier = [u8; 12];
 

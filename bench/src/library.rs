@@ -1,5 +1,6 @@
 //! The functions of the proved library that run events: those linked into this program, and those of another build of it, a shared object.
 
+use crate::c::{rakhvide_check, rakhvide_open, rakhvide_page, rakhvide_step};
 use second::table::BYTES;
 use std::ffi::{c_char, c_int, c_void, CStr, CString};
 
@@ -9,18 +10,6 @@ type Step = unsafe extern "C" fn(*mut u8, usize, *const u8, usize) -> u8;
 type Check = unsafe extern "C" fn(*const u8, usize) -> u8;
 
 extern "C" {
-    fn rakhvide_page(
-        book: *const u8,
-        nb: usize,
-        events: *const u8,
-        ne: usize,
-        out: *mut u8,
-        no: usize,
-        written: *mut usize,
-    ) -> bool;
-    fn rakhvide_open(book: *const u8, nb: usize, table: *mut u8, nt: usize) -> u8;
-    fn rakhvide_step(table: *mut u8, nt: usize, event: *const u8, ne: usize) -> u8;
-    fn rakhvide_check(table: *const u8, nt: usize) -> u8;
     fn dlopen(file: *const c_char, flags: c_int) -> *mut c_void;
     fn dlsym(handle: *mut c_void, name: *const c_char) -> *mut c_void;
     fn dlerror() -> *const c_char;

@@ -3,12 +3,11 @@
 //! The C is compiled twice, by gcc and by clang, which has the same back end as the proved code. The columns of clang and of
 //! QuantLib are there where the features are.
 
+use crate::c::{rakhvide_price_fixed, rakhvide_price_zero};
 use crate::timing::{best, Work};
 use std::hint::black_box;
 
 extern "C" {
-    fn rakhvide_price_zero(periods: u8, payments: u8, ytm: f64) -> u64;
-    fn rakhvide_price_fixed(periods: u8, payments: u8, coupon: f64, ytm: f64) -> u64;
     fn c_price_zero(periods: u8, payments: u8, ytm: f64) -> u64;
     fn c_price_fixed(periods: u8, payments: u8, coupon: f64, ytm: f64) -> u64;
     #[cfg(feature = "clang")]

@@ -1,23 +1,11 @@
 //! Books built from their empty ones, entry by entry: the proved writer and that of the second implementation. Either reads the whole book
 //! at each call, as the writer refuses a faulty one; the proved verdict on the same books is measured alone too.
 
+use crate::c::{rakhvide_add, rakhvide_book};
 use crate::timing::{best, Work};
 use second::book::{self, Book, ENTRY};
 use second::table::ENTRIES;
 use std::hint::black_box;
-
-extern "C" {
-    fn rakhvide_book(book: *const u8, n: usize) -> u8;
-    fn rakhvide_add(
-        buffer: *mut u8,
-        n: usize,
-        count: usize,
-        identifier: *const u8,
-        ni: usize,
-        terms: *const u8,
-        nt: usize,
-    ) -> u8;
-}
 
 type Add = fn(&mut [u8], usize, &[u8], &[u8]) -> u8;
 

@@ -5,36 +5,8 @@
 
 use std::ffi::c_void;
 
-mod c {
-    extern "C" {
-        pub fn rakhvide_identifier(s: *const u8, n: usize) -> u8;
-        pub fn rakhvide_book(book: *const u8, n: usize) -> u8;
-        pub fn rakhvide_term(term: *const u8, n: usize, bits: *mut u64) -> u8;
-        pub fn rakhvide_price_zero(periods: u8, payments: u8, ytm: f64) -> u64;
-        pub fn rakhvide_price_fixed(periods: u8, payments: u8, coupon: f64, ytm: f64) -> u64;
-        pub fn rakhvide_page(
-            book: *const u8,
-            nb: usize,
-            events: *const u8,
-            ne: usize,
-            out: *mut u8,
-            no: usize,
-            length: *mut usize,
-        ) -> bool;
-        pub fn rakhvide_add(
-            buffer: *mut u8,
-            n: usize,
-            count: usize,
-            identifier: *const u8,
-            ni: usize,
-            terms: *const u8,
-            nt: usize,
-        ) -> u8;
-        pub fn rakhvide_open(book: *const u8, nb: usize, table: *mut u8, nt: usize) -> u8;
-        pub fn rakhvide_check(table: *const u8, nt: usize) -> u8;
-        pub fn rakhvide_step(table: *mut u8, nt: usize, event: *const u8, ne: usize) -> u8;
-    }
-}
+#[path = "c.rs"]
+mod c;
 
 extern "C" {
     fn mmap(at: *mut c_void, length: usize, access: i32, flags: i32, file: i32, offset: i64) -> *mut c_void;
