@@ -34,7 +34,7 @@ unwritten : (j : ℕ) (v : Job) → Local (λ n u. jobAt u j ≡ v)
 unwritten j v = record {
   machine = λ n t m w e p. job-machine t m w j ∙ p;
   pool = λ n t m i r p. job-pool t m i r j ∙ p;
-  send = λ t x p. job-send t x j ∙ p;
+  send = λ t x q p. job-send t x j ∙ p;
   less = λ t p. p;
 }
 

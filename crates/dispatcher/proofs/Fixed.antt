@@ -67,7 +67,7 @@ module _ {A : Type 0} (f : Table → A) (h : Fixed f) where
       local = record {
         machine = λ n t m v e p. h .machine t m v ∙ p;
         pool = λ n t m j r p. h .pool t m j r ∙ p;
-        send = λ t x p. cond-elim (Is a 0) (eqb (machineAt t (x .to) .alive) 1) _ t (h .messages t _ _ ∙ p) p;
+        send = λ t x q p. cond-elim (Is a 0) (eqb (machineAt t (x .to) .alive) 1) _ t (h .messages t _ _ ∙ p) p;
         less = λ t p. p;
       };
       job = λ n t j v p. h .job t j v ∙ p;
@@ -84,7 +84,7 @@ module _ {A : Type 0} (f : Table → A) (h : Fixed f) where
     fixed-admitted a = closed-admitted (Is (f t)) (fixed-closed (f t)) t a refl
 
     pub fixed-stolen : (a b : ℕ) → f (stolen t a b) ≡ f t
-    fixed-stolen a b = closed-stolen (Is (f t)) (fixed-closed (f t)) t a b refl
+    fixed-stolen a b = closed-stolen (Is (f t)) (fixed-closed (f t)) t a b (λ l. refl) refl
 
     pub fixed-delivered : (k : ℕ) → f (delivered t k) ≡ f t
     unfolding removeAt

@@ -1,7 +1,7 @@
 -- What every update of a table keeps, every handler and every accepted event keeps: their definitions gone through once.
 -- Assumes nothing.
 use Prim.Native.Nat.{ℕ, _+_}
-use mathlib.Core.Path.{_≡_, refl}
+use mathlib.Core.Path.{_≡_, refl, sym, _∙_}
 use mathlib.Core.Bool.{Bool, not, _&&_, _||_}
 use lib.Dec.{eqb, leb}
 use Rattle.lists.proofs.Cases.{cond-elim}
@@ -13,8 +13,8 @@ use Rattle.table.specs.declared.Table.{Table}
 use Rattle.table.specs.Views.{noMachine, jobAt, machineAt, poolAt, toldAt, messageAt, withJob, withMachine, withPool, withTold}
 use Rattle.table.specs.Pools.{enter, lowest, returned}
 use Rattle.table.specs.Messages.{removeAt, keepMessages, send, notTo, notFrom}
-use Rattle.table.specs.Parts.{reserve, release, running, waiting, OPEN, PRICED}
-use Rattle.table.proofs.Views.{views}
+use Rattle.table.specs.Parts.{reserve, release, running, waiting, message, OPEN, PRICED}
+use Rattle.table.proofs.Views.{views, alive-machine}
 use Rattle.table.proofs.ClearPool.{keeps-clearPool}
 use Rattle.handler_victim.specs.Victim.{noWork, grant, onFish, matches, onAuth, onDenied, onObsolete}
 use Rattle.handler_thief.specs.Thief.{onSchedule, onNoWork}
@@ -27,11 +27,11 @@ use Rattle.event_start_done.specs.StartDone.{started, finished}
 use Rattle.event_notice.specs.Notice.{informed, clearWait, returnReserved, noticeLocal, affected, reissueOne, reissue, noticed}
 
 -- P n is kept by each update of pools and of machines that stay alive or dead, and by sending: n is the number of slots that must be free, and a
--- message that is sent takes one
+-- message to a living machine takes one
 pub record Local (P : ℕ → Table → Type 0) : Type 0 where
   pub machine : (n : ℕ) (t : Table) (m : ℕ) (v : Machine) → v .alive ≡ machineAt t m .alive → P n t → P n (withMachine t m v)
   pub pool : (n : ℕ) (t : Table) (m j r : ℕ) → P n t → P n (withPool t m j r)
-  pub send : (t : Table) (x : Message) → P 1 t → P 0 (send t x)
+  pub send : (t : Table) (x : Message) → (machineAt t (x .to) .alive ≡ 1 → P 1 t) → P 0 t → P 0 (send t x)
   pub less : (t : Table) → P 1 t → P 0 t
 
 -- and by an update of a job: all that a handler does
@@ -48,6 +48,10 @@ pub record Closed (P : ℕ → Table → Type 0) : Type 0 where
 -- ---- what a victim and a thief do
 
 module _ (P : ℕ → Table → Type 0) (c : Local P) where
+  -- where a slot is free whoever the receiver is
+  closed-send : (t : Table) (x : Message) → P 1 t → P 0 (send t x)
+  closed-send t x p = c .send t x (λ l. p) (c .less t p)
+
   pub closed-enter : (n : ℕ) (t : Table) (m j r : ℕ) → P n t → P n (enter t m j r)
   unfolding enter
   closed-enter n t m j r p = c .pool n t m j _ p
@@ -74,27 +78,27 @@ module _ (P : ℕ → Table → Type 0) (c : Local P) where
         let b = x .to in
         let j = lowest t b in
         let v = reserve (machineAt t b) j (poolAt t b j) (x .from) in
-        cond-elim (P 0) (not (eqb (machineAt t (x .to) .«reserved_replica») 0)) _ _ (c .send t _ p)
-        (cond-elim (P 0) (leb 64 (lowest t (x .to))) _ _ (c .send t _ p)
-        (c .send _ _ (c .machine 1 (withPool t b j 0) b v (unfold reserve in simp views) (c .pool 1 t b j 0 p))))
+        cond-elim (P 0) (not (eqb (machineAt t (x .to) .«reserved_replica») 0)) _ _ (closed-send t _ p)
+        (cond-elim (P 0) (leb 64 (lowest t (x .to))) _ _ (closed-send t _ p)
+        (closed-send _ _ (c .machine 1 (withPool t b j 0) b v (unfold reserve in simp views) (c .pool 1 t b j 0 p))))
 
     pub closed-auth : P 0 (onAuth t x)
     unfolding onAuth
-    closed-auth = cond-elim (P 0) (matches t x) _ t (c .send _ _ (closed-release 1 t _ p)) (c .less t p)
+    closed-auth = cond-elim (P 0) (matches t x) _ t (closed-send _ _ (closed-release 1 t _ p)) (c .less t p)
 
     pub closed-denied : P 0 (onDenied t x)
     unfolding onDenied noWork
-    closed-denied = cond-elim (P 0) (matches t x) _ t (c .send _ _ (closed-returned 1 t _ p)) (c .less t p)
+    closed-denied = cond-elim (P 0) (matches t x) _ t (closed-send _ _ (closed-returned 1 t _ p)) (c .less t p)
 
     pub closed-obsolete : P 0 (onObsolete t x)
     unfolding onObsolete noWork
-    closed-obsolete = cond-elim (P 0) (matches t x) _ t (c .send _ _ (closed-release 1 t _ p)) (c .less t p)
+    closed-obsolete = cond-elim (P 0) (matches t x) _ t (closed-send _ _ (closed-release 1 t _ p)) (c .less t p)
 
     pub closed-schedule : P 0 (onSchedule t x)
     unfolding onSchedule
     closed-schedule =
         let b = x .to in
-        c .send _ _ (c .machine 1 (enter t b (x .job) (x .replica)) b (waiting (machineAt t b) 0) (unfold waiting enter in simp views)
+        closed-send _ _ (c .machine 1 (enter t b (x .job) (x .replica)) b (waiting (machineAt t b) 0) (unfold waiting enter in simp views)
         (closed-enter 1 t _ _ _ p))
 
     pub closed-nowork : P 0 (onNoWork t x)
@@ -111,9 +115,9 @@ module _ (P : ℕ → Table → Type 0) (c : Handling P) where
     req : P 0 (onReq t x)
     unfolding onReq reply
     req =
-        cond-elim (P 0) (eqb (jobAt t (x .job) .state) PRICED || not (eqb (jobAt t (x .job) .replica) (x .replica))) _ _ (c .local .send t _ p)
-        (cond-elim (P 0) (not (eqb (toldAt t 0 (x .thief)) 0) || not (eqb (jobAt t (x .job) .moving) 0)) _ _ (c .local .send t _ p)
-        (c .local .send _ _ (c .job 1 t _ _ p)))
+        cond-elim (P 0) (eqb (jobAt t (x .job) .state) PRICED || not (eqb (jobAt t (x .job) .replica) (x .replica))) _ _ (closed-send P (c .local) t _ p)
+        (cond-elim (P 0) (not (eqb (toldAt t 0 (x .thief)) 0) || not (eqb (jobAt t (x .job) .moving) 0)) _ _ (closed-send P (c .local) t _ p)
+        (closed-send P (c .local) _ _ (c .job 1 t _ _ p)))
 
     ack : P 0 (onAck t x)
     unfolding onAck
@@ -129,7 +133,7 @@ module _ (P : ℕ → Table → Type 0) (c : Handling P) where
         by-kind (P 0) t x (λ k. rest) (λ k. closed-fish P l t x p) (λ k. req) (λ k. closed-auth P l t x p) (λ k. closed-denied P l t x p)
         (λ k. closed-obsolete P l t x p) (λ k. closed-schedule P l t x p) (λ k. ack) (λ k. closed-nowork P l t x p) (λ k. result)
 
--- ---- the events: where one sends, a slot is free
+-- ---- the events: where one sends to a living machine, a slot is free
 
 module _ (P : ℕ → Table → Type 0) (c : Closed P) where
   abbrev h : Handling P
@@ -143,9 +147,12 @@ module _ (P : ℕ → Table → Type 0) (c : Closed P) where
     unfolding admitted
     closed-admitted a p = closed-enter P l 0 _ 0 a 1 (h .job 0 t a _ p)
 
-    pub closed-stolen : (a b : ℕ) → P 1 t → P 0 (stolen t a b)
-    unfolding stolen
-    closed-stolen a b p = l .send _ _ (closed-waiting P l 1 t a _ p)
+    pub closed-stolen : (a b : ℕ) → (machineAt t b .alive ≡ 1 → P 1 t) → P 0 t → P 0 (stolen t a b)
+    unfolding stolen message
+    closed-stolen a b q p =
+        let n = waiting (machineAt t a) (b + 1) in
+        l .send (withMachine t a n) _ (λ e. closed-waiting P l 1 t a _ (q (sym (alive-machine t a n (unfold waiting in refl) b) ∙ e)))
+        (closed-waiting P l 0 t a _ p)
 
     pub closed-delivered : (k : ℕ) → P 1 (removeAt t k) → P 0 (delivered t k)
     unfolding delivered
@@ -158,7 +165,7 @@ module _ (P : ℕ → Table → Type 0) (c : Closed P) where
 
     pub closed-finished : (a : ℕ) → P 1 t → P 0 (finished t a)
     unfolding finished
-    closed-finished a p = l .send _ _ (closed-idle P l 1 t a p)
+    closed-finished a p = closed-send P l _ _ (closed-idle P l 1 t a p)
 
     -- Die, where P is kept by a machine's record that is cleared
     pub closed-died : (a : ℕ) → ((u : Table) → P 0 u → P 0 (withMachine u a noMachine)) → P 0 t → P 0 (died t a)

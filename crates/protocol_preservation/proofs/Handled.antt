@@ -13,6 +13,7 @@ use Rattle.table.specs.declared.Machine.{Machine}
 use Rattle.table.specs.declared.Message.{Message}
 use Rattle.table.specs.Views.{jobAt, machineAt, poolAt, toldAt, withJob, withMachine, withPool}
 use Rattle.table.specs.Pools.{enter, lowest, returned}
+use Rattle.table.specs.Needs.{RoomFor}
 use Rattle.table.specs.Parts.{moved, placed, priced, reserve, release, waiting, copyIs, reserves, message, REQ, AUTH, DENIED, OBSOLETE, SCHEDULE, ACK}
 use Rattle.table.specs.Parts.{RESULT, OPEN, PRICED, NOWORK}
 use Rattle.table.proofs.Views.{Sized, views, sized-job, sized-machine, sized-pool}
@@ -51,9 +52,9 @@ module _ (t : Table) (s : Sized t) (o : Ok t) where
   ok-release m h al = ok-machine t s o m (release (machineAt t m)) h (unfold release in refl)
       (machine-release (t .«machine_count») (t .«entry_count») (maxReplica t) m (machineAt t m) (o .machine m h) al)
 
-  pub ok-noWork : (b th : ℕ) → t .«in_flight» < 128 → b < t .«machine_count» → th < t .«machine_count» → Ok (noWork t b th)
+  pub ok-noWork : (b th : ℕ) → RoomFor t th → b < t .«machine_count» → th < t .«machine_count» → Ok (noWork t b th)
   unfolding noWork message
-  ok-noWork b th l h k = ok-send t s o (message NOWORK b th 0 0 0) (λ e. l) (rw (lt-ltb b (t .«machine_count») h, lt-ltb th (t .«machine_count») k))
+  ok-noWork b th l h k = ok-send t s o (message NOWORK b th 0 0 0) l (rw (lt-ltb b (t .«machine_count») h, lt-ltb th (t .«machine_count») k))
 
 maxReplica-enter : (t : Table) (m j r : ℕ) → maxReplica (enter t m j r) ≡ maxReplica t
 unfolding enter
@@ -143,7 +144,7 @@ module _ (t : Table) (x : Message) (s : Sized t) (o : Ok t) (l : t .«in_flight�
   pub ok-fish : Ok (onFish t x)
   unfolding onFish
   ok-fish =
-      let none : Ok (noWork t (x .to) (x .from)) = ok-noWork t s o (x .to) (x .from) l to-m from-m in
+      let none : Ok (noWork t (x .to) (x .from)) = ok-noWork t s o (x .to) (x .from) (λ e. l) to-m from-m in
       byBool (not (eqb (machineAt t (x .to) .«reserved_replica») 0))
       (λ a. rw (a, onFish) none)
       (λ a. byBool (leb 64 (lowest t (x .to)))
@@ -175,7 +176,7 @@ module _ (t : Table) (x : Message) (s : Sized t) (o : Ok t) (l : t .«in_flight�
       (λ a. rw (a, onDenied)
       (ok-noWork (returned t b) (sized-returned t b s)
       (ok-returned t s o b to-16 al (reserves-some (machineAt t b) (x .job) (x .replica) (x .thief) a)) b (x .thief)
-      (simp used-returned l) (simp machine-count-returned to-m) (simp machine-count-returned th)))
+      (λ e. simp used-returned l) (simp machine-count-returned to-m) (simp machine-count-returned th)))
       (λ a. rw (a, onDenied) o)
 
   pub ok-obsolete : x .kind ≡ OBSOLETE → Ok (onObsolete t x)
@@ -186,7 +187,7 @@ module _ (t : Table) (x : Message) (s : Sized t) (o : Ok t) (l : t .«in_flight�
       let v = release (machineAt t b) in
       byBool (reserves (machineAt t b) (x .job) (x .replica) (x .thief))
       (λ a. rw (a, onObsolete)
-      (ok-noWork (withMachine t b v) (sized-machine t b v s) (ok-release t s o b to-16 al) b (x .thief) (simp views l) (simp views to-m)
+      (ok-noWork (withMachine t b v) (sized-machine t b v s) (ok-release t s o b to-16 al) b (x .thief) (λ e. simp views l) (simp views to-m)
       (simp views th)))
       (λ a. rw (a, onObsolete) o)
 

@@ -27,7 +27,7 @@ free = record {
     local = record {
       machine = λ n t m v e p. (sized-machine t m v (p .0), simp views (p .1));
       pool = λ n t m j r p. (sized-pool t m j r (p .0), simp views (p .1));
-      send = λ t x p. let s = sized-send t (p .0) x (λ e. omega (arith, p .1)) in (s, omega (arith, s .used));
+      send = λ t x q p. let s = sized-send t (p .0) x (λ e. omega (arith, q e .1)) in (s, omega (arith, s .used));
       less = λ t p. (p .0, omega (arith, p .1));
     };
     job = λ n t j v p. (sized-job t j v (p .0), simp views (p .1));

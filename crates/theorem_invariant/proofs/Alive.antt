@@ -29,7 +29,7 @@ module _ (t : Table) where
         machine = λ n u m v e p k. alive-machine u m v e k ∙ p k;
         pool = λ n u m j r p k. simp views (p k);
         send =
-            λ u x p k. cond-elim (λ w. machineAt w k .alive ≡ machineAt t k .alive) (eqb (machineAt u (x .to) .alive) 1) _ u (simp views (p k)) (p k);
+            λ u x q p k. cond-elim (λ w. machineAt w k .alive ≡ machineAt t k .alive) (eqb (machineAt u (x .to) .alive) 1) _ u (simp views (p k)) (p k);
         less = λ u p. p;
       };
       job = λ n u j v p k. simp views (p k);
@@ -45,7 +45,7 @@ module _ (t : Table) where
   alive-admitted a = closed-admitted Lives lives t a same
 
   pub alive-stolen : (a b m : ℕ) → machineAt (stolen t a b) m .alive ≡ machineAt t m .alive
-  alive-stolen a b = closed-stolen Lives lives t a b same
+  alive-stolen a b = closed-stolen Lives lives t a b (λ l. same) same
 
   pub alive-delivered : (k m : ℕ) → machineAt (delivered t k) m .alive ≡ machineAt t m .alive
   unfolding removeAt
@@ -71,7 +71,7 @@ module _ (t : Table) where
     local = record {
       machine = λ n u m v e p k d. simp views (p k d);
       pool = λ n u m j r p k d. simp views (p k d);
-      send = λ u x p k d. cond-elim (λ w. toldAt w k d ≡ toldAt t k d) (eqb (machineAt u (x .to) .alive) 1) _ u (simp views (p k d)) (p k d);
+      send = λ u x q p k d. cond-elim (λ w. toldAt w k d ≡ toldAt t k d) (eqb (machineAt u (x .to) .alive) 1) _ u (simp views (p k d)) (p k d);
       less = λ u p. p;
     };
     job = λ n u j v p k d. simp views (p k d);
