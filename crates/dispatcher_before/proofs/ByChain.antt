@@ -1,11 +1,13 @@
--- One event as it was answered and as it is: a steal, or one that is answered alike, with none of the three reasons. Assumes nothing.
+-- One event as it is answered by two chains of a steal's refusals: a steal, or one that is answered alike, with none of the three reasons. By today's
+-- chain it is answered as it is today. Assumes nothing.
 use Prim.Native.Nat.{ℕ, _≤_, _<_}
 use mathlib.Core.Path.{_≡_, refl, sym, ap, _∙_}
+use mathlib.Core.Logic.{_≢_}
 use mathlib.Core.Bool.{Bool, true, false, not, cond}
 use mathlib.Core.List.{List}
-use borrow.Author.Tests.{not-false}
+use borrow.Author.Tests.{not-false, eq-eqb, ne-eqb}
 use lib.Dec.{eqb, leb}
-use Rattle.lists.proofs.Cases.{byBool}
+use Rattle.lists.proofs.Cases.{byBool, byEq}
 use Rattle.table.specs.declared.Job.{Job}
 use Rattle.table.specs.declared.Machine.{Machine}
 use Rattle.table.specs.declared.Table.{Table}
@@ -16,16 +18,17 @@ use Rattle.table.specs.Parts.{NOT-ADMITTED}
 use Rattle.validity.specs.Validity.{tableOk}
 use Rattle.event_admit_deliver_die.specs.AdmitDeliverDie.{admitNumber, admitOf, deliverNumber, deliverOf, dieNumber, dieOf}
 use Rattle.event_admit_deliver_die.proofs.Made.{admit-number, deliver-number, die-number}
-use Rattle.event_steal.specs.Steal.{stealOf}
+use Rattle.event_steal.specs.Steal.{stealNumber, stealOf}
 use Rattle.event_start_done.specs.StartDone.{startNumber, startOf, doneNumber, doneOf}
 use Rattle.event_start_done.proofs.Made.{start-number, done-number}
 use Rattle.event_notice.specs.Notice.{noticeNumber, noticeOf}
 use Rattle.event_notice.proofs.Number.{notice-number}
 use Rattle.dispatcher.specs.Codes.{STEAL, lastCode}
-use Rattle.dispatcher.specs.Step.{codeOf, firstOf, secondOf, wellFormed, indicesInRange, eventOf, answerOf, stepOf}
+use Rattle.dispatcher.specs.Step.{codeOf, firstOf, secondOf, twoMachines, wellFormed, indicesInRange, eventOf, answerOf, stepOf}
 use Rattle.dispatcher.proofs.Form.{wellFormed-code}
+use Rattle.dispatcher.proofs.Numbers.{machines-in}
 use Rattle.dispatcher.proofs.OnTable.{by-code}
-use Rattle.dispatcher_before.specs.Before.{stealBefore, eventBefore, answerBefore, stepBefore}
+use Rattle.dispatcher_before.specs.Before.{Chain, stealBy, eventBy, answerBy, stepBy}
 use Rattle.dispatcher_before.specs.Reasons.{isReason}
 
 abbrev pub NoReason : ℕ → Type 0
@@ -64,37 +67,57 @@ notice-none : (n d : Machine) (told : ℕ) → NoReason (noticeNumber n d told)
 unfolding noticeNumber
 notice-none n d told = chain (not (eqb (n .alive) 1)) (eqb (d .alive) 1) (not (eqb told 0)) 12 21 22 refl refl refl
 
+-- an answer by its number, which is n
+none : (n : ℕ) (x : Answer) → NoReason n → n ≡ x .number → NoReason (x .number)
+none n x y e = sym (ap (λ (k : ℕ). isReason k) e) ∙ y
+
+other-none : (t : Table) (code a b : ℕ) → indicesInRange t code a b ≡ true → 1 ≤ code → code ≤ lastCode → code ≢ STEAL
+    → NoReason (eventOf t code a b .number)
+other-none t code a b i l m =
+    by-code t code a b i l m (λ k o. k ≢ STEAL → NoReason (o .number)) record {
+      admit = λ h c. none _ (admitOf t a) (admit-none (jobAt t a)) (admit-number t a);
+      steal = λ h k c. absurd (c refl);
+      deliver = λ c. none _ (deliverOf t a b) (deliver-none (t .«in_flight») (oldest t a b)) (deliver-number t a b);
+      start = λ h k c. none _ (startOf t a b) (start-none (machineAt t a) (poolAt t a b)) (start-number t a b);
+      done = λ h k c. none _ (doneOf t a) (done-none (machineAt t a) (t .«in_flight»)) (done-number t a);
+      die = λ h k c. none _ (dieOf t a) (die-none a (machineAt t a)) (die-number t a);
+      notice = λ h k c. none _ (noticeOf t a b) (notice-none (machineAt t a) (machineAt t b) (toldAt t a b)) (notice-number t a b);
+    }
+
 -- ---- by the code, and by 9, 10 and 11
 
-module _ (P : Answer → Answer → Type 0) (t : Table) (alike : (x : Answer) → NoReason (x .number) → P x x) where
-  -- an answer by its number, which is n
-  none : (n : ℕ) (x : Answer) → NoReason n → n ≡ x .number → P x x
-  none n x y e = alike x (sym (ap (λ (k : ℕ). isReason k) e) ∙ y)
-
+module _ (P : Answer → Answer → Type 0) (t : Table) (alike : (x : Answer) → NoReason (x .number) → P x x) (f g : Chain) where
   by-event : (code a b : ℕ) → indicesInRange t code a b ≡ true → 1 ≤ code → code ≤ lastCode
-      → (a < t .«machine_count» → b < t .«machine_count» → code ≡ STEAL → P (stealBefore t a b) (stealOf t a b))
-      → P (eventBefore t code a b) (eventOf t code a b)
-  unfolding eventBefore eventOf
-  by-event code a b g l m steal =
-      by-code t code a b g l m (λ k o. code ≡ k → P (eventBefore t k a b) o) record {
-        admit = λ h c. none _ (admitOf t a) (admit-none (jobAt t a)) (admit-number t a);
-        steal = steal;
-        deliver = λ c. none _ (deliverOf t a b) (deliver-none (t .«in_flight») (oldest t a b)) (deliver-number t a b);
-        start = λ h k c. none _ (startOf t a b) (start-none (machineAt t a) (poolAt t a b)) (start-number t a b);
-        done = λ h k c. none _ (doneOf t a) (done-none (machineAt t a) (t .«in_flight»)) (done-number t a);
-        die = λ h k c. none _ (dieOf t a) (die-none a (machineAt t a)) (die-number t a);
-        notice = λ h k c. none _ (noticeOf t a b) (notice-none (machineAt t a) (machineAt t b) (toldAt t a b)) (notice-number t a b);
-      } refl
+      → (a < t .«machine_count» → b < t .«machine_count» → code ≡ STEAL → P (stealBy f t a b) (stealBy g t a b))
+      → P (eventBy f t code a b) (eventBy g t code a b)
+  unfolding eventBy
+  by-event code a b i l m steal =
+      byEq code STEAL
+      (λ c. let p = machines-in t code a b i (ap (λ (k : ℕ). twoMachines k) c) in rw (eq-eqb code STEAL c) (steal (p .0) (p .1) c))
+      (λ c. rw (ne-eqb code STEAL c) (alike (eventOf t code a b) (other-none t code a b i l m c)))
 
   -- a steal that comes to its own refusals is on a table that passes check 9, and its numbers are those of machines
   pub by-chain : (e : List ℕ)
       → (tableOk t ≡ true → firstOf e < t .«machine_count» → secondOf e < t .«machine_count» → codeOf e ≡ STEAL
-      → P (stealBefore t (firstOf e) (secondOf e)) (stealOf t (firstOf e) (secondOf e)))
-      → P (stepBefore t e) (stepOf t e)
-  unfolding stepBefore stepOf answerBefore answerOf
+      → P (stealBy f t (firstOf e) (secondOf e)) (stealBy g t (firstOf e) (secondOf e)))
+      → P (stepBy f t e) (stepBy g t e)
+  unfolding stepBy answerBy
   by-chain e steal =
-      byBool (not (tableOk t)) (λ f. rw f (alike (refuse 9 t) refl))
-      (λ f. byBool (not (wellFormed e)) (λ g. rw (f, g) (alike (refuse 10 t) refl))
-      (λ g. byBool (not (indicesInRange t (codeOf e) (firstOf e) (secondOf e))) (λ h. rw (f, g, h) (alike (refuse 11 t) refl))
-      (λ h. let w = wellFormed-code e (not-false _ g) in
-      rw (f, g, h) (by-event (codeOf e) (firstOf e) (secondOf e) (not-false _ h) (w .0) (w .1) (steal (not-false _ f))))))
+      byBool (not (tableOk t)) (λ x. rw x (alike (refuse 9 t) refl))
+      (λ x. byBool (not (wellFormed e)) (λ y. rw (x, y) (alike (refuse 10 t) refl))
+      (λ y. byBool (not (indicesInRange t (codeOf e) (firstOf e) (secondOf e))) (λ z. rw (x, y, z) (alike (refuse 11 t) refl))
+      (λ z. let w = wellFormed-code e (not-false _ y) in
+      rw (x, y, z) (by-event (codeOf e) (firstOf e) (secondOf e) (not-false _ z) (w .0) (w .1) (steal (not-false _ x))))))
+
+-- ---- today's chain
+
+event-today : (t : Table) (code a b : ℕ) → eventBy stealNumber t code a b ≡ eventOf t code a b
+unfolding eventBy eventOf stealBy stealOf
+event-today t code a b = byEq code STEAL (λ c. rw c) (λ c. rw (ne-eqb code STEAL c))
+
+pub step-today : (t : Table) (e : List ℕ) → stepBy stealNumber t e ≡ stepOf t e
+unfolding stepBy stepOf answerBy answerOf
+step-today t e =
+    ap (λ (x : Answer). cond (not (tableOk t)) (refuse 9 t) (cond (not (wellFormed e)) (refuse 10 t)
+    (cond (not (indicesInRange t (codeOf e) (firstOf e) (secondOf e))) (refuse 11 t) x)))
+    (event-today t (codeOf e) (firstOf e) (secondOf e))

@@ -1,7 +1,7 @@
 -- The answers to events as they were before request 2.5, "Three reasons for a turned-back steal": old behaviour, which no code has, for the comparison
--- in Reasons.antt. What the request changed is the chain of a steal, `stealNumberBefore`. The other definitions repeat, over it, event_steal's `stealOf`
--- and those of dispatcher's Step. What the request left alone is cited as it is today: what an accepted steal does, the other events, and 9, 10 and 11.
--- Definitions only.
+-- in Reasons.antt. What the request changed is the chain of a steal's refusals, `stealNumberBefore`. The other definitions repeat, over any chain,
+-- event_steal's `stealOf` and those of dispatcher's Step. What the request left alone is cited as it is today: what an accepted steal does, the other
+-- events, and 9, 10 and 11. Definitions only.
 use Prim.Native.Nat.{ℕ}
 use mathlib.Core.Bool.{not, cond}
 use mathlib.Core.List.{List, [], _∷_}
@@ -16,8 +16,12 @@ use Rattle.event_steal.specs.Steal.{stolen}
 use Rattle.dispatcher.specs.Codes.{STEAL}
 use Rattle.dispatcher.specs.Step.{codeOf, firstOf, secondOf, wellFormed, indicesInRange, eventOf}
 
+-- the number of a steal: of the thief, of what it was told, of the number in flight, and of a and b. Today's is `stealNumber`
+abbrev pub Chain : Type 0
+Chain = Machine → ℕ → ℕ → ℕ → ℕ → ℕ
+
 -- document 01: 12 thief dead; 14 thief is victim, or waits already, or was told the victim is dead; 16 128 messages in flight
-unfoldable pub stealNumberBefore : Machine → ℕ → ℕ → ℕ → ℕ → ℕ
+unfoldable pub stealNumberBefore : Chain
 stealNumberBefore n told used a b =
     cond (not (eqb (n .alive) 1)) 12
     (cond (eqb a b) 14
@@ -26,30 +30,30 @@ stealNumberBefore n told used a b =
     (cond (leb 128 used) 16 0))))
 
 -- as `stealOf`
-unfoldable pub stealBefore : Table → ℕ → ℕ → Answer
-stealBefore t a b = judged t (stealNumberBefore (machineAt t a) (toldAt t a b) (t .«in_flight») a b) (stolen t a b)
+unfoldable pub stealBy : Chain → Table → ℕ → ℕ → Answer
+stealBy f t a b = judged t (f (machineAt t a) (toldAt t a b) (t .«in_flight») a b) (stolen t a b)
 
 -- as `eventOf`
-unfoldable pub eventBefore : Table → ℕ → ℕ → ℕ → Answer
-eventBefore t code a b = cond (eqb code STEAL) (stealBefore t a b) (eventOf t code a b)
+unfoldable pub eventBy : Chain → Table → ℕ → ℕ → ℕ → Answer
+eventBy f t code a b = cond (eqb code STEAL) (stealBy f t a b) (eventOf t code a b)
 
 -- as `answerOf`
-unfoldable pub answerBefore : Table → List ℕ → Answer
-answerBefore t e =
+unfoldable pub answerBy : Chain → Table → List ℕ → Answer
+answerBy f t e =
     cond (not (wellFormed e)) (refuse 10 t)
     (cond (not (indicesInRange t (codeOf e) (firstOf e) (secondOf e))) (refuse 11 t)
-    (eventBefore t (codeOf e) (firstOf e) (secondOf e)))
+    (eventBy f t (codeOf e) (firstOf e) (secondOf e)))
 
 -- as `stepOf`: the answer that an event got on a table
-unfoldable pub stepBefore : Table → List ℕ → Answer
-stepBefore t e = cond (not (tableOk t)) (refuse 9 t) (answerBefore t e)
+unfoldable pub stepBy : Chain → Table → List ℕ → Answer
+stepBy f t e = cond (not (tableOk t)) (refuse 9 t) (answerBy f t e)
 
 -- as `runOf`
-unfoldable pub runBefore : Table → List (List ℕ) → Table
-runBefore t [] = t
-runBefore t (e ∷ es) = runBefore (stepBefore t e .table) es
+unfoldable pub runBy : Chain → Table → List (List ℕ) → Table
+runBy f t [] = t
+runBy f t (e ∷ es) = runBy f (stepBy f t e .table) es
 
 -- as `answersOf`
-unfoldable pub answersBefore : Table → List (List ℕ) → List ℕ
-answersBefore t [] = []
-answersBefore t (e ∷ es) = stepBefore t e .number ∷ answersBefore (stepBefore t e .table) es
+unfoldable pub answersBy : Chain → Table → List (List ℕ) → List ℕ
+answersBy f t [] = []
+answersBy f t (e ∷ es) = stepBy f t e .number ∷ answersBy f (stepBy f t e .table) es

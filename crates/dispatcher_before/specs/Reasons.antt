@@ -13,7 +13,7 @@ use Rattle.table.specs.Views.{machineAt, toldAt}
 use Rattle.event_steal.specs.Steal.{stealOf}
 use Rattle.dispatcher.specs.Codes.{STEAL}
 use Rattle.dispatcher.specs.Step.{codeOf, firstOf, secondOf, stepOf, runOf, answersOf}
-use Rattle.dispatcher_before.specs.Before.{stealBefore, stepBefore, runBefore, answersBefore}
+use Rattle.dispatcher_before.specs.Before.{stealNumberBefore, stealBy, stepBy, runBy, answersBy}
 
 -- "one of the three"
 abbrev pub isReason : ℕ → Bool
@@ -50,13 +50,13 @@ pub record Means (t : Table) (a b n : ℕ) : Type 0 where
 
 pub record ThreeReasons : Type 0 where
   -- "The steals that got 14 are the ones that get one of the three", whatever the table and the two numbers
-  pub steal : (t : Table) (a b : ℕ) → Kept (stealBefore t a b) (stealOf t a b)
+  pub steal : (t : Table) (a b : ℕ) → Kept (stealBy stealNumberBefore t a b) (stealOf t a b)
   -- the same of any event, on any table and any bytes
-  pub event : (t : Table) (e : List ℕ) → Kept (stepBefore t e) (stepOf t e)
+  pub event : (t : Table) (e : List ℕ) → Kept (stepBy stealNumberBefore t e) (stepOf t e)
   -- it is a steal that gets one of the three, which then says why
   pub means : (t : Table) (e : List ℕ) → isReason (stepOf t e .number) ≡ true
       → (codeOf e ≡ STEAL) × Means t (firstOf e) (secondOf e) (stepOf t e .number)
   -- a list of events leaves the table that it left,
-  pub run : (t : Table) (es : List (List ℕ)) → runOf t es ≡ runBefore t es
+  pub run : (t : Table) (es : List (List ℕ)) → runOf t es ≡ runBy stealNumberBefore t es
   -- and each of its events got today's number, or 14 where that is one of the three
-  pub answers : (t : Table) (es : List (List ℕ)) → answersBefore t es ≡ map numberBefore (answersOf t es)
+  pub answers : (t : Table) (es : List (List ℕ)) → answersBy stealNumberBefore t es ≡ map numberBefore (answersOf t es)
