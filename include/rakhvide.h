@@ -75,7 +75,7 @@ uint8_t rakhvide_check(const uint8_t *table, size_t table_length);
  *   11                           a machine or entry number too large;
  *   admit (1)    13              admitted already;
  *   steal (2)    12, 14, 24, 25  the thief is dead; is the victim; waits already; was told that the victim is dead;
- *                16              128 messages are in flight;
+ *                16              128 messages are in flight, and the victim lives;
  *   deliver (3)  15              no message is in flight from a to b;
  *   start (4)    12, 17, 18      the machine is dead; runs a copy already; has no copy of the job in its pool;
  *   done (5)     12, 19, 16      the machine is dead; runs nothing; 128 messages are in flight;

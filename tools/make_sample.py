@@ -1,5 +1,5 @@
 #!/usr/bin/python3
-"""Writes the data and the output of the programs that print a page: rakhvide, rakhvide_sample and five more.
+"""Writes the data and the output of the programs that print a page: rakhvide, rakhvide_sample and six more.
 
 To run, at the root of the repository: /usr/bin/python3 tools/make_sample.py
 It needs Python's standard library only (last run with Python 3.11).
@@ -16,11 +16,13 @@ Each is the same program on other data:
     test_long_list      20,000 events, of which the last is refused, and two more that are not read
     test_broken_event   a last event of two bytes
     test_turned_back    steals that are turned back, for each reason alone and for two at once
+    test_full_channel   128 messages in flight, and then steals from a dead machine and from living ones
 
 The events of rakhvide_sample are chosen at random, with a fixed seed, by way of the table of model.py, which is documents 01 and 02
 in Python and shares nothing with the crates; its page is the model's, but the prices are decided by exact rational arithmetic whose
 every operation is rounded once to the nearest binary64, ties to even. The other pages are written here by hand from document 01's
-text, "The program's page", and that of test_turned_back from document 02's, 2.5. The script fails where a price or a page of the model differs.
+text, "The program's page", and those of test_turned_back and test_full_channel from document 02's, 2.5 and 2.10. The script fails where
+a price or a page of the model differs.
 
 The bonds are invented; their identifiers have the form and the check digit of ISO 6166. The result depends on nothing else.
 """
@@ -135,9 +137,50 @@ def turned_back() -> Program:
         (25, "steal 0 from 2"),
         (0, "start 1 job 0"), (0, "done 1"), (0, "deliver 1 to 0"), (0, "deliver 1 to 0"),  # ACK and RESULT
     ]
-    page = "".join(f"event {k} refused {number}\n" for k, (number, _) in enumerate(listed, 1) if number)
-    page += "ZZ0000000016 priced 405A000000000000 replica 1\nZZ0000000024 not admitted\n"
-    return Program("test_turned_back", books.book_of(3, LISTING_BONDS), lists.make("".join(event + "\n" for _, event in listed)), page)
+    entries = "ZZ0000000016 priced 405A000000000000 replica 1\nZZ0000000024 not admitted\n"
+    return answered("test_turned_back", books.book_of(3, LISTING_BONDS), listed, entries)
+
+
+def full_channel() -> Program:
+    """With 128 in flight a steal from a dead machine is accepted, nothing is stored, and the thief waits for its notice. From a living one
+    it is refused 16, and Done is. Every bond goes by way of 2 to 1, which runs it: an ACK and a RESULT each. The root gets none of them
+    before the end: 128 messages. Machine 3 is dead, and nobody was told."""
+    to_2 = ["steal 2 from 0", "deliver 2 to 0", "deliver 0 to 0", "deliver 0 to 0", "deliver 0 to 2", "deliver 2 to 0"]
+    to_1 = ["steal 1 from 2", "deliver 1 to 2", "deliver 2 to 0", "deliver 0 to 2", "deliver 2 to 1"]
+    before = [f"admit {job}" for job in range(64)] + ["die 3"] + 64 * to_2 + 64 * to_1
+    before += [event for job in range(63) for event in (f"start 1 job {job}", "done 1")] + ["start 1 job 63"]  # 127 messages
+    listed = [(0, event) for event in before] + [
+        (0, "steal 2 from 4"),  # FISH: 128
+        (16, "done 1"),  # to the root, which lives
+        (16, "steal 0 from 4"),
+        (0, "steal 0 from 3"),  # dead, and the root was not told
+        (15, "deliver 0 to 3"),  # nothing is stored,
+        (24, "steal 0 from 4"),  # and the root waits
+        (16, "steal 4 from 0"),
+        (0, "steal 4 from 3"),
+        (24, "steal 2 from 3"),  # it waits on 4
+        (14, "steal 1 from 1"),
+        (12, "steal 3 from 3"),
+        (0, "notice 4 of 3"),  # it waits no more
+        (25, "steal 4 from 3"),
+        (16, "steal 4 from 2"),
+        (0, "notice 0 of 3"),
+        (16, "steal 0 from 2"),
+        (0, "deliver 2 to 4"),  # FISH is taken off, and NOWORK is sent: 128
+        (16, "done 1"),
+        (0, "deliver 4 to 2"),  # 127
+        (0, "done 1"),  # 128
+        (0, "steal 1 from 3"), (0, "notice 1 of 3"),
+    ] + 128 * [(0, "deliver 1 to 0")]
+    bonds = [entry(f"ZZ{number:09}", FIXED, 2, 4.0, 0.0) for number in range(1, 65)]
+    entries = "".join(f"{bond.identifier.decode('ascii')} priced 405A000000000000 replica 1\n" for bond in bonds)
+    return answered("test_full_channel", books.book_of(5, bonds), listed, entries)
+
+
+def answered(crate: str, book: bytes, listed: list[tuple[int, str]], entries: str) -> Program:
+    """A list of events, each with its number, and the lines of the entries after it."""
+    refused = "".join(f"event {place} refused {number}\n" for place, (number, _) in enumerate(listed, 1) if number)
+    return Program(crate, book, lists.make("".join(event + "\n" for _, event in listed)), refused + entries)
 
 
 # The sample close.
@@ -230,7 +273,7 @@ def write(program: Program) -> None:
 
 
 def main() -> None:
-    for program in (listing(), sample_close(), no_files(), refused_book(), long_list(), broken_event(), turned_back()):
+    for program in (listing(), sample_close(), no_files(), refused_book(), long_list(), broken_event(), turned_back(), full_channel()):
         write(program)
 
 

@@ -82,7 +82,8 @@ def price_of(entry: books.Entry) -> float:
 
 
 # "Where each refusal is checked": the rows of the events, each from left to right, as number, condition and test. 24 and 25 are
-# document 02's, 2.5: "24, thief already waits, after 14; 25, thief was told the victim is dead, after 24".
+# document 02's, 2.5: "24, thief already waits, after 14; 25, thief was told the victim is dead, after 24". That a steal gets 16
+# only where its victim lives is 2.10: "A message to a dead machine takes no place", and this line "now goes first".
 Refusal = tuple[int, str, collections.abc.Callable[["Table", int, int], bool]]
 REFUSALS: dict[str, list[Refusal]] = {
     "admit": [
@@ -92,7 +93,7 @@ REFUSALS: dict[str, list[Refusal]] = {
         (14, "the thief is the victim", lambda t, a, b: a == b),
         (24, "the thief waits already", lambda t, a, b: t.machines[a].waits is not None),
         (25, "the thief was told the victim is dead", lambda t, a, b: b in t.machines[a].told),
-        (16, "128 messages in flight", lambda t, a, b: t.is_full())],
+        (16, "128 messages in flight", lambda t, a, b: t.machines[b].alive and t.is_full())],
     "deliver": [
         (15, "none in flight", lambda t, a, b: not t.between(a, b))],
     "start": [

@@ -817,7 +817,7 @@ class Model(Folder):
     def test_programs(self):
         """The pages that the programs must print; test_no_files has no folder of data."""
         for crate, status in (("rakhvide", 0), ("rakhvide_sample", 0), ("test_refused_book", 3), ("test_long_list", 0), ("test_broken_event", 0),
-                              ("test_turned_back", 0)):
+                              ("test_turned_back", 0), ("test_full_channel", 0)):
             done = tool("model.py", CRATES / crate / "data")
             self.assertEqual((done.stdout, done.returncode), ((CRATES / crate / "stdout").read_bytes(), status))
             self.assertEqual(b"events.bin has 20002 events: the first 20000 are read\n" in done.stderr, crate == "test_long_list")
@@ -1015,6 +1015,17 @@ class Picture(Folder):
         for count, note in ((3, "refused 14: the thief is the victim"), (3, "refused 24: the thief waits already"),
                             (2, "refused 25: the thief was told the victim is dead")):
             self.assertEqual(sum(text.startswith(note) for text in words), count)
+
+    def test_a_steal_from_the_dead_on_a_full_channel(self):
+        """Document 02, 2.10: "such a steal is accepted, nothing is stored, and the thief waits for its notice"."""
+        run = history.History(*book_bytes.parts((CRATES / "test_full_channel" / "data" / "book.bin").read_bytes()),
+                              (CRATES / "test_full_channel" / "data" / "events.bin").read_bytes())
+        lost = [row for row in run.rows if row.note == "FISH lost: 3 is dead"]
+        self.assertEqual([(row.text, row.number) for row in lost], [("steal 0 from 3", 0), ("steal 4 from 3", 0), ("steal 1 from 3", 0)])
+        notices = {machine: row for row, machine, _ in run.notices}
+        waits = {wait.machine: wait.end for wait in run.waits if wait.victim == 3}
+        self.assertEqual(waits, notices)
+        self.assertEqual(sum(row.note == "128 messages in flight" and row.text == "done 1" for row in run.rows), 2)
 
     def test_random_runs(self):
         for seed, machines, entries, count in ((1, 2, 1, 80), (2, 2, 0, 5), (3, 16, 64, 300), (4, 5, 9, 400), (5, 3, 4, 0), (6, 8, 20, 200)):

@@ -60,13 +60,14 @@ fn admit(table: &mut Table, a: u8) -> Answer {
 
 /// "thief a sends FISH to b and waits on b." The three numbers in the middle are document 02's, 2.5: "14 now
 /// means only that thief and victim are the same. [..] 24, thief already waits, after 14; 25, thief was told
-/// the victim is dead, after 24."
+/// the victim is dead, after 24." A dead victim's FISH takes no place, so 16 is about a living one (2.10):
+/// "such a steal is accepted, nothing is stored, and the thief waits for its notice."
 fn steal(table: &mut Table, a: u8, b: u8) -> Answer {
     refuse(!table.alive(a), 12)?;
     refuse(a == b, 14)?;
     refuse(table.machine[usize::from(a)].waits != 0, 24)?;
     refuse(table.was_told(a, b), 25)?;
-    refuse(table.full(), 16)?;
+    refuse(table.alive(b) && table.full(), 16)?;
     table.send(Message { kind: FISH, from: a, to: b, ..Message::NONE });
     table.machine[usize::from(a)].waits = b + 1;
     Ok(())
@@ -309,5 +310,31 @@ mod tests {
         assert_eq!(step(&mut told, &[2, 1, 1]), 12);
         told.machine[0].waits = 2;
         assert_eq!(step(&mut told, &[2, 0, 1]), 24);
+    }
+
+    /// 128 messages in flight, all from the root to itself.
+    fn filled(events: &[[u8; 3]]) -> Table {
+        let mut table = played(events);
+        while !table.full() {
+            table.send(Message { kind: FISH, ..Message::NONE });
+        }
+        table
+    }
+
+    #[test]
+    fn full_channel_dead_victim() {
+        let mut living = filled(&[[1, 0, 0], [4, 0, 0]]);
+        assert_eq!(step(&mut living, &[2, 0, 1]), 16);
+        assert_eq!(step(&mut living, &[5, 0, 0]), 16);
+        let mut dead = filled(&[[1, 0, 0], [4, 0, 0], [6, 1, 0]]);
+        let before = dead.clone();
+        assert_eq!(step(&mut dead, &[5, 0, 0]), 16);
+        assert_eq!(step(&mut dead, &[2, 0, 1]), 0);
+        assert_eq!(dead.machine[0].waits, 2);
+        assert_eq!(dead.in_flight(), before.in_flight());
+        assert_eq!(step(&mut dead, &[2, 0, 1]), 24);
+        assert_eq!(step(&mut dead, &[7, 0, 1]), 0);
+        assert_eq!(dead.machine[0].waits, 0);
+        assert_eq!(step(&mut dead, &[2, 0, 1]), 25);
     }
 }

@@ -62,7 +62,7 @@ placeOf q x low =
 unfoldable pub numberOf : Ask → Parts → Machine → ℕ → ℕ → ℕ → ℕ
 numberOf q p peer told used slot =
     cond (eqb (q .code) ADMIT) (admitNumber (p .job))
-    (cond (eqb (q .code) STEAL) (stealNumber (p .machine) told used (q .a) (q .b))
+    (cond (eqb (q .code) STEAL) (stealNumber (p .machine) peer told used (q .a) (q .b))
     (cond (eqb (q .code) DELIVER) (deliverNumber used slot)
     (cond (eqb (q .code) START) (startNumber (p .machine) (p .cell))
     (cond (eqb (q .code) DONE) (doneNumber (p .machine) used)

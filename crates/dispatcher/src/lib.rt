@@ -173,7 +173,7 @@ fn number_of(ask: Ask, p: Parts, peer: Machine, told: u8, used: u8, slot: usize)
     let machine = p.machine;
     match code {
         ADMIT => event_admit_deliver_die::admit_number(job),
-        STEAL => event_steal::steal_number(machine, told, used, ask.a, ask.b),
+        STEAL => event_steal::steal_number(machine, peer, told, used, ask.a, ask.b),
         DELIVER => event_admit_deliver_die::deliver_number(used as usize, slot),
         START => event_start_done::start_number(machine, p.cell),
         DONE => event_start_done::done_number(machine, used),

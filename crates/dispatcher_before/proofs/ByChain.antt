@@ -98,7 +98,7 @@ module _ (P : Answer → Answer → Type 0) (t : Table) (alike : (x : Answer) �
 
   -- a steal that comes to its own refusals is on a table that passes check 9, and its numbers are those of machines
   pub by-chain : (e : List ℕ)
-      → (tableOk t ≡ true → firstOf e < t .«machine_count» → secondOf e < t .«machine_count» → codeOf e ≡ STEAL
+      → (tableOk t ≡ true → wellFormed e ≡ true → firstOf e < t .«machine_count» → secondOf e < t .«machine_count» → codeOf e ≡ STEAL
       → P (stealBy f t (firstOf e) (secondOf e)) (stealBy g t (firstOf e) (secondOf e)))
       → P (stepBy f t e) (stepBy g t e)
   unfolding stepBy answerBy
@@ -107,7 +107,7 @@ module _ (P : Answer → Answer → Type 0) (t : Table) (alike : (x : Answer) �
       (λ x. byBool (not (wellFormed e)) (λ y. rw (x, y) (alike (refuse 10 t) refl))
       (λ y. byBool (not (indicesInRange t (codeOf e) (firstOf e) (secondOf e))) (λ z. rw (x, y, z) (alike (refuse 11 t) refl))
       (λ z. let w = wellFormed-code e (not-false _ y) in
-      rw (x, y, z) (by-event (codeOf e) (firstOf e) (secondOf e) (not-false _ z) (w .0) (w .1) (steal (not-false _ x))))))
+      rw (x, y, z) (by-event (codeOf e) (firstOf e) (secondOf e) (not-false _ z) (w .0) (w .1) (steal (not-false _ x) (not-false _ y))))))
 
 -- ---- today's chain
 

@@ -1,3 +1,5 @@
 pub mod Chains
 pub mod ByChain
 pub mod Reasons
+pub mod Waits
+pub mod Full

@@ -13,10 +13,10 @@ use Rattle.table.specs.Parts.{judged}
 use Rattle.validity.specs.Validity.{tableOk}
 use Rattle.protocol_preservation.proofs.Ok.{tests, machine-count-most}
 use Rattle.protocol_preservation.proofs.Facts.{told-dead as flag-dead}
-use Rattle.event_steal.specs.Steal.{stolen, stealNumber, stealOf}
+use Rattle.event_steal.specs.Steal.{stolen, stealNumber}
 use Rattle.dispatcher.specs.Codes.{STEAL}
-use Rattle.dispatcher.specs.Step.{codeOf, firstOf, secondOf, stepOf, runOf, answersOf}
-use Rattle.dispatcher_before.specs.Before.{stealNumberBefore, stealBy, stepBy, runBy, answersBy}
+use Rattle.dispatcher.specs.Step.{codeOf, firstOf, secondOf}
+use Rattle.dispatcher_before.specs.Before.{stealNumberBefore, stealNumberSince, stealBy, stepBy, runBy, answersBy}
 use Rattle.dispatcher_before.specs.Reasons.{isReason, numberBefore, Kept, Means, ThreeReasons}
 use Rattle.dispatcher_before.proofs.ByChain.{by-chain, step-today}
 use Rattle.dispatcher_before.proofs.Chains.{by-chains}
@@ -47,15 +47,17 @@ kept before now n s =
 
 -- ---- a steal
 
-steal-kept : (t : Table) (a b : ℕ) → Kept (stealBy stealNumberBefore t a b) (stealOf t a b)
-unfolding stealBy stealOf
+steal-kept : (t : Table) (a b : ℕ) → Kept (stealBy stealNumberBefore t a b) (stealBy stealNumberSince t a b)
+unfolding stealBy
 steal-kept t a b =
-    by-chains (machineAt t a) (toldAt t a b) (t .«in_flight») a b (λ x y. Kept (judged t x (stolen t a b)) (judged t y (stolen t a b))) record {
+    let u = stolen t a b in
+    by-chains (machineAt t a) (machineAt t b) (toldAt t a b) (t .«in_flight») a b (λ x y z. Kept (judged t x u) (judged t y u)) record {
       dead = kept _ _ refl refl;
       same = λ l d. kept _ _ refl refl;
       waits = λ l d w. kept _ _ refl refl;
       told = λ l d w y. kept _ _ refl refl;
       full = kept _ _ refl refl;
+      through = λ l w y d f. kept _ _ refl refl;
       accepted = kept _ _ refl refl;
     }
 
@@ -79,7 +81,7 @@ module _ (t : Table) (a b : ℕ) (dead : toldAt t a b ≢ 0 → machineAt t b .a
   steal-means : Said (stealBy stealNumber t a b .number)
   unfolding stealBy
   steal-means =
-      by-chains (machineAt t a) (toldAt t a b) (t .«in_flight») a b (λ x y. Said (judged t y (stolen t a b) .number)) record {
+      by-chains (machineAt t a) (machineAt t b) (toldAt t a b) (t .«in_flight») a b (λ x y z. Said (judged t z (stolen t a b) .number)) record {
         dead = silent 12 refl;
         same = λ l d r. record {
           alive = l;
@@ -103,25 +105,24 @@ module _ (t : Table) (a b : ℕ) (dead : toldAt t a b ≢ 0 → machineAt t b .a
           dead = λ z. dead y;
         };
         full = silent 16 refl;
+        through = λ l w y d f. silent 0 refl;
         accepted = silent 0 refl;
       }
 
 -- ---- any event, and a list of events
 
-step-kept : (t : Table) (e : List ℕ) → Kept (stepBy stealNumberBefore t e) (stepOf t e)
-unfolding stealBy stealOf
+pub step-kept : (t : Table) (e : List ℕ) → Kept (stepBy stealNumberBefore t e) (stepBy stealNumberSince t e)
 step-kept t e =
-    rw (sym (step-today t e))
-    (by-chain Kept t (λ x y. kept x x (sym (was-same (x .number) y)) refl) stealNumberBefore stealNumber e
-    (λ h l k c. steal-kept t (firstOf e) (secondOf e)))
+    by-chain Kept t (λ x y. kept x x (sym (was-same (x .number) y)) refl) stealNumberBefore stealNumberSince e
+    (λ h w l k c. steal-kept t (firstOf e) (secondOf e))
 
-run-kept : (t : Table) (es : List (List ℕ)) → runOf t es ≡ runBy stealNumberBefore t es
-unfolding runOf runBy
+run-kept : (t : Table) (es : List (List ℕ)) → runBy stealNumberSince t es ≡ runBy stealNumberBefore t es
+unfolding runBy
 run-kept t [] = refl
 run-kept t (e ∷ es) = rw (step-kept t e .table) (run-kept (stepBy stealNumberBefore t e .table) es)
 
-answers-kept : (t : Table) (es : List (List ℕ)) → answersBy stealNumberBefore t es ≡ map numberBefore (answersOf t es)
-unfolding answersOf answersBy
+answers-kept : (t : Table) (es : List (List ℕ)) → answersBy stealNumberBefore t es ≡ map numberBefore (answersBy stealNumberSince t es)
+unfolding answersBy
 answers-kept t [] = refl
 answers-kept t (e ∷ es) = rw (step-kept t e .number, step-kept t e .table, answers-kept (stepBy stealNumberBefore t e .table) es)
 
@@ -136,7 +137,7 @@ three-reasons =
           rw (sym (step-today t e))
           (by-chain (λ x y. isReason (y .number) ≡ true → (codeOf e ≡ STEAL) × Means t a b (y .number)) t (λ x n y. absurd (true≢false (sym y ∙ n)))
           stealNumber stealNumber e
-          (λ h l k c y. (c, steal-means t a b (told-dead t a b h l k) y)));
+          (λ h w l k c y. (c, steal-means t a b (told-dead t a b h l k) y)));
       run = run-kept;
       answers = answers-kept;
     }

@@ -1,7 +1,8 @@
--- The answers to events as they were before request 2.5, "Three reasons for a turned-back steal": old behaviour, which no code has, for the comparison
--- in Reasons.antt. What the request changed is the chain of a steal's refusals, `stealNumberBefore`. The other definitions repeat, over any chain,
--- event_steal's `stealOf` and those of dispatcher's Step. What the request left alone is cited as it is today: what an accepted steal does, the other
--- events, and 9, 10 and 11. Definitions only.
+-- The answers to events as they were before request 2.5, "Three reasons for a turned-back steal", and before 2.10, "Full channel, dead victim": old
+-- behaviour, which no code has, for the comparisons in Reasons.antt and Full.antt. What the requests changed is the chain of a steal's refusals:
+-- `stealNumberBefore` until 2.5, `stealNumberSince` from then until 2.10. The other definitions repeat, over any chain, event_steal's `stealOf` and
+-- those of dispatcher's Step. What the requests left alone is cited as it is today: what an accepted steal does, the other events, and 9, 10 and 11.
+-- Definitions only.
 use Prim.Native.Nat.{ℕ}
 use mathlib.Core.Bool.{not, cond}
 use mathlib.Core.List.{List, [], _∷_}
@@ -16,22 +17,32 @@ use Rattle.event_steal.specs.Steal.{stolen}
 use Rattle.dispatcher.specs.Codes.{STEAL}
 use Rattle.dispatcher.specs.Step.{codeOf, firstOf, secondOf, wellFormed, indicesInRange, eventOf}
 
--- the number of a steal: of the thief, of what it was told, of the number in flight, and of a and b. Today's is `stealNumber`
+-- the number of a steal: of the thief, of the victim, of what the thief was told, of the number in flight, and of a and b. Today's is `stealNumber`
 abbrev pub Chain : Type 0
-Chain = Machine → ℕ → ℕ → ℕ → ℕ → ℕ
+Chain = Machine → Machine → ℕ → ℕ → ℕ → ℕ → ℕ
 
--- document 01: 12 thief dead; 14 thief is victim, or waits already, or was told the victim is dead; 16 128 messages in flight
+-- document 01: 12 thief dead; 14 thief is victim, or waits already, or was told the victim is dead; 16 128 messages in flight, whoever the victim v is
 unfoldable pub stealNumberBefore : Chain
-stealNumberBefore n told used a b =
+stealNumberBefore n v told used a b =
     cond (not (eqb (n .alive) 1)) 12
     (cond (eqb a b) 14
     (cond (not (eqb (n .waits) 0)) 14
     (cond (not (eqb told 0)) 14
     (cond (leb 128 used) 16 0))))
 
+-- since request 2.5: 12 thief dead; 14 thief is victim; 24 it waits already; 25 it was told the victim is dead; 16 128 messages in flight, whoever the
+-- victim v is
+unfoldable pub stealNumberSince : Chain
+stealNumberSince n v told used a b =
+    cond (not (eqb (n .alive) 1)) 12
+    (cond (eqb a b) 14
+    (cond (not (eqb (n .waits) 0)) 24
+    (cond (not (eqb told 0)) 25
+    (cond (leb 128 used) 16 0))))
+
 -- as `stealOf`
 unfoldable pub stealBy : Chain → Table → ℕ → ℕ → Answer
-stealBy f t a b = judged t (f (machineAt t a) (toldAt t a b) (t .«in_flight») a b) (stolen t a b)
+stealBy f t a b = judged t (f (machineAt t a) (machineAt t b) (toldAt t a b) (t .«in_flight») a b) (stolen t a b)
 
 -- as `eventOf`
 unfoldable pub eventBy : Chain → Table → ℕ → ℕ → ℕ → Answer

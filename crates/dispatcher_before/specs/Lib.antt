@@ -1,2 +1,3 @@
 pub mod Before
 pub mod Reasons
+pub mod Full

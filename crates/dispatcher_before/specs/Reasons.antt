@@ -1,6 +1,7 @@
 -- Request 2.5: "14 now means only that thief and victim are the same. The steals that got 14 are the ones that get one of the three. New numbers: 24,
--- thief already waits, after 14; 25, thief was told the victim is dead, after 24." The claim is `ThreeReasons`, over the answers as they were
--- (Before.antt); its proof is in proofs/Reasons.antt. Definitions only.
+-- thief already waits, after 14; 25, thief was told the victim is dead, after 24." The claim is `ThreeReasons`, over the answers as they were before
+-- the request and since (Before.antt); what of it holds of today's answers is `reasons` in Full.antt. Its proof is in proofs/Reasons.antt.
+-- Definitions only.
 use Prim.Native.Nat.{ℕ}
 use mathlib.Core.Path.{_≡_}
 use mathlib.Core.Logic.{_≢_}
@@ -10,20 +11,19 @@ use lib.Dec.{eqb}
 use Rattle.table.specs.declared.Table.{Table}
 use Rattle.table.specs.declared.Answer.{Answer}
 use Rattle.table.specs.Views.{machineAt, toldAt}
-use Rattle.event_steal.specs.Steal.{stealOf}
 use Rattle.dispatcher.specs.Codes.{STEAL}
-use Rattle.dispatcher.specs.Step.{codeOf, firstOf, secondOf, stepOf, runOf, answersOf}
-use Rattle.dispatcher_before.specs.Before.{stealNumberBefore, stealBy, stepBy, runBy, answersBy}
+use Rattle.dispatcher.specs.Step.{codeOf, firstOf, secondOf, stepOf}
+use Rattle.dispatcher_before.specs.Before.{stealNumberBefore, stealNumberSince, stealBy, stepBy, runBy, answersBy}
 
 -- "one of the three"
 abbrev pub isReason : ℕ → Bool
 isReason n = eqb n 14 || (eqb n 24 || eqb n 25)
 
--- the number of before, where today's is n
+-- the number of before, where the one since is n
 abbrev pub numberBefore : ℕ → ℕ
 numberBefore n = cond (isReason n) 14 n
 
--- an answer as it was, and today's
+-- an answer as it was before the request, and since
 pub record Kept (before now : Answer) : Type 0 where
   -- the number was the same, but that 14 was that of each of the three
   pub number : before .number ≡ numberBefore (now .number)
@@ -50,13 +50,13 @@ pub record Means (t : Table) (a b n : ℕ) : Type 0 where
 
 pub record ThreeReasons : Type 0 where
   -- "The steals that got 14 are the ones that get one of the three", whatever the table and the two numbers
-  pub steal : (t : Table) (a b : ℕ) → Kept (stealBy stealNumberBefore t a b) (stealOf t a b)
+  pub steal : (t : Table) (a b : ℕ) → Kept (stealBy stealNumberBefore t a b) (stealBy stealNumberSince t a b)
   -- the same of any event, on any table and any bytes
-  pub event : (t : Table) (e : List ℕ) → Kept (stepBy stealNumberBefore t e) (stepOf t e)
-  -- it is a steal that gets one of the three, which then says why
+  pub event : (t : Table) (e : List ℕ) → Kept (stepBy stealNumberBefore t e) (stepBy stealNumberSince t e)
+  -- it is a steal that gets one of the three today, which then says why
   pub means : (t : Table) (e : List ℕ) → isReason (stepOf t e .number) ≡ true
       → (codeOf e ≡ STEAL) × Means t (firstOf e) (secondOf e) (stepOf t e .number)
-  -- a list of events leaves the table that it left,
-  pub run : (t : Table) (es : List (List ℕ)) → runOf t es ≡ runBy stealNumberBefore t es
-  -- and each of its events got today's number, or 14 where that is one of the three
-  pub answers : (t : Table) (es : List (List ℕ)) → answersBy stealNumberBefore t es ≡ map numberBefore (answersOf t es)
+  -- a list of events left the table that it had left before,
+  pub run : (t : Table) (es : List (List ℕ)) → runBy stealNumberSince t es ≡ runBy stealNumberBefore t es
+  -- and each of its events had got the number that it got since, or 14 where that is one of the three
+  pub answers : (t : Table) (es : List (List ℕ)) → answersBy stealNumberBefore t es ≡ map numberBefore (answersBy stealNumberSince t es)

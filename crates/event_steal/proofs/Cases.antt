@@ -2,8 +2,8 @@
 -- `Stealing` says. Assumes nothing.
 use Prim.Native.Nat.{ℕ, _<_}
 use mathlib.Core.Path.{_≡_, refl}
-use mathlib.Core.Bool.{not}
-use borrow.Author.Tests.{eqb-true, leb-false, not-false}
+use mathlib.Core.Bool.{not, _&&_}
+use borrow.Author.Tests.{eqb-true, eq-eqb, leb-false, not-false}
 use lib.Dec.{eqb, leb}
 use Rattle.lists.proofs.Cases.{byBool}
 use Rattle.table.specs.declared.Table.{Table}
@@ -28,12 +28,12 @@ module _ (t : Table) (a b : ℕ) (h : a < t .«machine_count») (k : b < t .«ma
       (λ e1. byBool (eqb a b) (λ e. rw (e1, e, stealOf) (refused 14 refl))
       (λ e2. byBool (not (eqb (machineAt t a .waits) 0)) (λ e. rw (e1, e2, e, stealOf) (refused 24 refl))
       (λ e3. byBool (not (eqb (toldAt t a b) 0)) (λ e. rw (e1, e2, e3, e, stealOf) (refused 25 refl))
-      (λ e4. byBool (leb 128 (t .«in_flight»)) (λ e. rw (e1, e2, e3, e4, e, stealOf) (refused 16 refl))
+      (λ e4. byBool (lives t b && leb 128 (t .«in_flight»)) (λ e. rw (e1, e2, e3, e4, e, stealOf) (refused 16 refl))
       (λ e5. rw (e1, e2, e3, e4, e5, stealOf)
       (f (record {
         machine = h;
         victim = k;
         alive = eqb-true _ 1 (not-false (lives t a) e1);
         untold = eqb-true (toldAt t a b) 0 (not-false _ e4);
-        room = λ l. leb-false 128 (t .«in_flight») e5;
+        room = λ l. leb-false 128 (t .«in_flight») (rw (eq-eqb (machineAt t b .alive) 1 l) at e5);
       })))))))

@@ -10,7 +10,7 @@ use Rattle.protocol_change.proofs.Made.{made-machine}
 use Rattle.event_steal.specs.Steal.{stolen, stealNumber, stealOf}
 use Rattle.event_steal.specs.StealParts.{stealChange}
 
-pub steal-number : (t : Table) (a b : ℕ) → stealNumber (machineAt t a) (toldAt t a b) (t .«in_flight») a b ≡ stealOf t a b .number
+pub steal-number : (t : Table) (a b : ℕ) → stealNumber (machineAt t a) (machineAt t b) (toldAt t a b) (t .«in_flight») a b ≡ stealOf t a b .number
 unfolding stealOf
 steal-number t a b = sym (judged-number t _ (stolen t a b))
 

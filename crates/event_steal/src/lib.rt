@@ -9,9 +9,9 @@ use protocol_change::Parts;
 use table::Machine;
 use table::Message;
 
-// Its number, for thief a, which is n, and victim b: whether a was told that b is dead, and how many messages are in flight.
-pub fn steal_number(n: Machine, told: u8, used: u8, a: u8, b: u8) -> u8
-    ensures { λ r. ⌜ r ≡ stealNumber n told used a b ⌝ }
+// Its number, for thief a, which is n, and victim b, which is v: whether a was told that b is dead, and how many messages are in flight.
+pub fn steal_number(n: Machine, v: Machine, told: u8, used: u8, a: u8, b: u8) -> u8
+    ensures { λ r. ⌜ r ≡ stealNumber n v told used a b ⌝ }
 {
     if n.alive != 1 {
         return 12;
@@ -25,7 +25,7 @@ pub fn steal_number(n: Machine, told: u8, used: u8, a: u8, b: u8) -> u8
     if told != 0 {
         return 25;
     }
-    if 128 <= used {
+    if (v.alive == 1) & (128 <= used) {
         return 16;
     }
     0

@@ -294,6 +294,22 @@ fn steal_conditions(table: &Table, event: &[u8]) -> Option<[bool; 5]> {
     }
 }
 
+/// What of `FULL` an event on a full table meets.
+fn met_full(table: &Table, event: &[u8]) -> Option<&'static str> {
+    let machine = |number: u8| &table.machine[usize::from(number)];
+    let untold = |a: u8, b: u8| a.max(b) < table.machines && table.alive(a) && !table.was_told(a, b);
+    match *event {
+        [2, a, b, ..] if untold(a, b) && a != b && machine(a).waits == 0 => {
+            Some(if table.alive(b) { "steal from the living" } else { "steal from the dead" })
+        }
+        [7, a, b, ..] if untold(a, b) && !table.alive(b) && machine(a).waits == b + 1 => {
+            Some("notice that ends a wait")
+        }
+        [5, a, 0, ..] if a < table.machines && machine(a).running.is_some() => Some("done"),
+        _ => None,
+    }
+}
+
 /// One event on both; number and all bytes afterwards are compared.
 fn step(trial: &mut Trial, table: &mut Table, snapshot: &mut Vec<u8>, event: &[u8]) -> Result<u8, String> {
     let oldest = match *event {
@@ -302,6 +318,7 @@ fn step(trial: &mut Trial, table: &mut Table, snapshot: &mut Vec<u8>, event: &[u
     };
     let before = oldest.map(|_| table.clone());
     let held = steal_conditions(table, event);
+    let met = met_full(table, event).filter(|_| table.full());
     let number = events::step(table, event);
     let library = trial.library.step(snapshot, event);
     same(&format!("{event:?}"), library, number)?;
@@ -311,6 +328,9 @@ fn step(trial: &mut Trial, table: &mut Table, snapshot: &mut Vec<u8>, event: &[u
     }
     if let Some(held) = held {
         trial.coverage.stolen(held);
+    }
+    if let Some(name) = met {
+        trial.coverage.count_full(name);
     }
     Ok(number)
 }

@@ -35,6 +35,11 @@ const STEAL_PAIRS: [(&str, &str); 7] = [
     ("told", "full"),
 ];
 
+/// What is to be met with 128 messages in flight: of a steal that is otherwise accepted the victim, which lives
+/// or is dead (document 02, 2.10); a notice that ends a wait; a Done that is otherwise accepted.
+pub const FULL: [&str; 4] =
+    ["steal from the living", "steal from the dead", "notice that ends a wait", "done"];
+
 /// What can come of a delivered message: the kind of the message that is sent, or what else changes.
 const OUTCOMES: [(u8, &[&str]); 9] = [
     (FISH, &["NOWORK", "REQ", "nothing"]),
@@ -170,6 +175,8 @@ pub struct Coverage {
     pub damaged_answers: Answers,
     /// Steals with more than one condition of `STEAL`, by the first two.
     pub steals: BTreeMap<(&'static str, &'static str), u64>,
+    /// By the names of `FULL`.
+    pub full: BTreeMap<&'static str, u64>,
     /// Messages handled, by kind and what came of it.
     pub handled: BTreeMap<(u8, &'static str), u64>,
     pub most_in_flight: u8,
@@ -202,6 +209,11 @@ impl Coverage {
         if let (Some(first), Some(second)) = (names.next(), names.next()) {
             *self.steals.entry((first, second)).or_default() += 1;
         }
+    }
+
+    /// Something of `FULL` was met.
+    pub fn count_full(&mut self, name: &'static str) {
+        *self.full.entry(name).or_default() += 1;
     }
 
     /// Something of `BELOW_ZERO` was met so many times.
@@ -260,6 +272,10 @@ impl Coverage {
         for ((first, second), count) in &self.steals {
             println!("  {first:5} {second:23} {count}");
         }
+        println!("with 128 messages in flight");
+        for (name, count) in &self.full {
+            println!("  {name:29} {count}");
+        }
         println!("most messages in flight {}; largest replica {}", self.most_in_flight, self.largest_replica);
         println!("messages handled, by what came of them");
         for ((kind, outcome), count) in &self.handled {
@@ -306,6 +322,8 @@ impl Coverage {
         missing.extend(never.map(|(kind, outcome)| format!("{} {outcome}", KINDS[usize::from(kind)])));
         let never = STEAL_PAIRS.iter().filter(|pair| !self.steals.contains_key(*pair));
         missing.extend(never.map(|(first, second)| format!("Steal: {first}, {second}")));
+        let never = FULL.iter().filter(|name| !self.full.contains_key(*name));
+        missing.extend(never.map(|name| format!("128 in flight: {name}")));
         missing.extend((1..=7u8).filter(|n| self.books[usize::from(*n)] == 0).map(|n| format!("book {n}")));
         let never = BELOW_ZERO.iter().filter(|name| !self.below_zero.contains_key(*name));
         missing.extend(never.map(|name| format!("yield below 0: {name}")));

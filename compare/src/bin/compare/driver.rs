@@ -81,10 +81,10 @@ impl Driver {
     }
 
     /// All jobs go by machine 2 to machine 1, whose messages to the root stay in flight: an ACK and a RESULT
-    /// for each. At the end every machine steals from itself. In some floods machine 3 is dead before, and
+    /// for each. At the end every machine steals from itself. In most floods machine 3 is dead before, and
     /// at the end they steal from it too, those who were told of it and those who were not.
     fn plan_flood(&mut self, rng: &mut Rng, table: &Table) {
-        let with_dead = table.machines > 3 && rng.chance(1, 2);
+        let with_dead = table.machines > 3 && rng.chance(2, 3);
         if with_dead {
             self.plan.push_back(Task::Event([6, 3, 0]));
             let told = (0..table.machines).filter(|_| rng.chance(1, 2));
@@ -169,7 +169,8 @@ impl Driver {
             1 => Some((rng.some(table.entries, |job| table.jobs[usize::from(job)].state == 0)?, 0)),
             2 => {
                 let a = rng.some(all, |m| table.alive(m) && machine(m).waits == 0)?;
-                let allowed = |b: u8| b != a && !table.was_told(a, b);
+                let to_dead = table.full() && rng.chance(3, 4);
+                let allowed = |b: u8| b != a && !table.was_told(a, b) && !(to_dead && table.alive(b));
                 let rich = rng.some(all, |b| allowed(b) && (0..table.entries).any(|job| pool(b, job) != 0));
                 Some((a, rich.filter(|_| rng.chance(1, 2)).or_else(|| rng.some(all, allowed))?))
             }

@@ -23,11 +23,11 @@ returns-4 c = search flags
 
 returns-5 : tie.Need-returns-5
 unfolding stealNumber
-returns-5 c = search flags
+returns-5 c = rw (c .if5 .taken) (search flags)
 
 returns-6 : tie.Need-returns-6
 unfolding stealNumber
-returns-6 c = search flags
+returns-6 c = rw (c .if5 .left) (search flags)
 
 pub steal-number-spec : {M : Type 1} → statement M
 steal-number-spec = tie.close (tie.spec returns returns-2 returns-3 returns-4 returns-5 returns-6)
