@@ -1018,8 +1018,8 @@ class Picture(Folder):
 
     def test_a_steal_from_the_dead_on_a_full_channel(self):
         """Document 02, 2.10: "such a steal is accepted, nothing is stored, and the thief waits for its notice"."""
-        run = history.History(*book_bytes.parts((CRATES / "test_full_channel" / "data" / "book.bin").read_bytes()),
-                              (CRATES / "test_full_channel" / "data" / "events.bin").read_bytes())
+        data, found = model.read_folder(CRATES / "test_full_channel" / "data")[:2]
+        run = history.History(*book_bytes.parts(data), found)
         lost = [row for row in run.rows if row.note == "FISH lost: 3 is dead"]
         self.assertEqual([(row.text, row.number) for row in lost], [("steal 0 from 3", 0), ("steal 4 from 3", 0), ("steal 1 from 3", 0)])
         notices = {machine: row for row, machine, _ in run.notices}

@@ -96,7 +96,7 @@ module _ (P : Answer → Answer → Type 0) (t : Table) (alike : (x : Answer) �
       (λ c. let p = machines-in t code a b i (ap (λ (k : ℕ). twoMachines k) c) in rw (eq-eqb code STEAL c) (steal (p .0) (p .1) c))
       (λ c. rw (ne-eqb code STEAL c) (alike (eventOf t code a b) (other-none t code a b i l m c)))
 
-  -- a steal that comes to its own refusals is on a table that passes check 9, and its numbers are those of machines
+  -- a steal that comes to its own refusals is on a table that passes check 9, is well formed, and its numbers are those of machines
   pub by-chain : (e : List ℕ)
       → (tableOk t ≡ true → wellFormed e ≡ true → firstOf e < t .«machine_count» → secondOf e < t .«machine_count» → codeOf e ≡ STEAL
       → P (stealBy f t (firstOf e) (secondOf e)) (stealBy g t (firstOf e) (secondOf e)))

@@ -48,7 +48,8 @@ pub record FullChannel : Type 0 where
   pub was : (t : Table) (e : List ℕ) → LetThrough t e → stepBy stealNumberSince t e ≡ refuse 16 t
   -- "such a steal is accepted, nothing is stored, and the thief waits": the table is as it was but for the thief's wait
   pub now : (t : Table) (e : List ℕ) → LetThrough t e → stepOf t e ≡ accept (waitingOn t (firstOf e) (secondOf e))
-  -- "for its notice": told of the victim by the next event, it waits no more. That the steal leaves a table which passes check 9 is `step-ok`
+  -- "for its notice": told of the victim by the next event, it waits no more. That the steal leaves a table which passes check 9 is `step-ok` of the
+  -- dispatcher, for tables whose arrays have their lengths
   pub notice : (t : Table) (e : List ℕ) → LetThrough t e → let u = stepOf t e .table in
       tableOk u ≡ true → EndsWait (firstOf e) (stepOf u (event NOTICE (firstOf e) (secondOf e)))
   -- "For one event on one table that is the only old answer that changes": any other is as it was, number and table, whatever the table and the bytes

@@ -22,8 +22,8 @@ const EXPECTED: [&[u8]; 8] = [
     &[0, 10, 11, 12, 21, 22],
 ];
 
-/// The conditions of Steal's refusals, in their order, and the pairs to be met: the first two that hold for
-/// one steal.
+/// The conditions of Steal's refusals, in their order, where "full" is 128 in flight whether or not the victim
+/// lives; and the pairs to be met: the first two that hold for one steal.
 pub const STEAL: [&str; 5] = ["dead", "same", "waits", "told", "full"];
 const STEAL_PAIRS: [(&str, &str); 7] = [
     ("dead", "same"),
@@ -268,7 +268,7 @@ impl Coverage {
             self.runs, self.pages, self.longest_page
         );
         self.answers.print("answers to the events of runs");
-        println!("steals with more than one reason to be refused, by the first two");
+        println!("steals with more than one of these conditions, by the first two");
         for ((first, second), count) in &self.steals {
             println!("  {first:5} {second:23} {count}");
         }
