@@ -9,8 +9,7 @@ use Rattle.table.specs.declared.Table.{Table}
 use Rattle.table.specs.Parts.{PRICED}
 use Rattle.table.specs.Views.{jobAt}
 use Rattle.table_opening.specs.Opening.{openOf}
-use Rattle.protocol_preservation.proofs.Ok.{Valid}
-use Rattle.theorem_invariant.proofs.State.{Invariant}
+use Rattle.theorem_invariant.proofs.State.{Invariant, valid}
 use Rattle.theorem_invariant.proofs.Keeps.{invariant-run}
 use Rattle.dispatcher.specs.Step.{runOf, answersOf}
 use Rattle.dispatcher.proofs.Runs.{run-append, answers-length}
@@ -20,9 +19,6 @@ use Rattle.claims.proofs.History.{settled}
 use Rattle.claims.proofs.Shown.{Start, shown}
 use Rattle.claims.proofs.Further.{job-64, further}
 use Rattle.claims.proofs.Start.{start}
-
-valid : (t : Table) → Invariant t → Valid t
-valid t w = record { sized = w .sized; ok = w .ok }
 
 -- a job that is priced after some events is untouched by later ones
 stays : (t : Table) (es later : List (List ℕ)) (j : ℕ) → Invariant t → jobAt (runOf t es) j .state ≡ PRICED

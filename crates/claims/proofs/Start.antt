@@ -16,9 +16,9 @@ use Rattle.table.specs.declared.Machine.{Machine}
 use Rattle.table.specs.Views.{machineAt}
 use Rattle.table_opening.specs.Opening.{freshOf, openOf}
 use Rattle.table_opening.proofs.Counts.{entry-count-most}
-use Rattle.table_opening.proofs.Shown.{sized-fresh, machine-count-fresh, bond-fresh, job-fresh, machine-fresh, machine-past, pool-fresh, flight-fresh}
+use Rattle.table_opening.proofs.Shown.{machine-count-fresh, bond-fresh, job-fresh, machine-fresh, machine-past, pool-fresh, flight-fresh}
 use Rattle.table_opening.proofs.Shown.{opened-table}
-use Rattle.theorem_fresh.proofs.Passes.{fresh-ok}
+use Rattle.theorem_fresh.proofs.Passes.{fresh-valid}
 use Rattle.theorem_invariant.proofs.Fresh.{Fresh, fresh-invariant}
 use Rattle.claims.proofs.Deaths.{gone, deaths}
 use Rattle.claims.proofs.Shown.{Start}
@@ -54,7 +54,7 @@ module _ (book : List ℕ) where
 
   start-fresh : bookVerdict book ≡ 0 → Start book (freshOf book)
   start-fresh ok = record {
-    invariant = fresh-invariant (freshOf book) (sized-fresh book) (fresh-ok book ok) fresh;
+    invariant = fresh-invariant (freshOf book) (fresh-valid book ok) fresh;
     new = λ j l. ap (λ (v : Job). v .state) (job-fresh book j);
     bond = λ j l. bond-fresh book j l;
     none = no-deaths;

@@ -3,18 +3,18 @@
 use Prim.Native.Nat.{ℕ, _<_}
 use mathlib.Core.Path.{_≡_, refl, sym, ap, _∙_}
 use mathlib.Core.Logic.{_≢_}
-use mathlib.Core.Bool.{Bool, false, _&&_, _||_}
+use mathlib.Core.Bool.{Bool, false, _&&_}
 use mathlib.Core.List.{List}
 use native.Mathlib.Omega.{arith}
-use borrow.Author.Tests.{eqb-true, eq-eqb, ne-eqb}
+use borrow.Author.Tests.{eq-eqb, ne-eqb}
 use lib.Dec.{eqb}
-use Rattle.lists.proofs.Cases.{byBool, byEq, and-left}
+use Rattle.lists.proofs.Cases.{byBool, byEq}
 use Rattle.table.specs.declared.Job.{Job}
 use Rattle.table.specs.declared.Table.{Table}
 use Rattle.table.specs.declared.Answer.{Answer}
 use Rattle.table.specs.Views.{jobAt, withJob}
 use Rattle.table.specs.Messages.{oldest}
-use Rattle.table.specs.Parts.{opened, accept, RESULT, OPEN}
+use Rattle.table.specs.Parts.{opened, accept, RESULT}
 use Rattle.table.proofs.Views.{views, job-same, job-other, job-machine}
 use Rattle.event_admit_deliver_die.specs.AdmitDeliverDie.{admitted, delivered, died}
 use Rattle.event_steal.specs.Steal.{stolen}
@@ -24,7 +24,7 @@ use Rattle.protocol_preservation.proofs.Sizes.{sized-noticeLocal}
 use Rattle.theorem_invariant.proofs.State.{Invariant}
 use Rattle.theorem_invariant.proofs.Frame.{job-enter}
 use Rattle.event_admit_deliver_die.proofs.Views.{job-died}
-use Rattle.event_notice.proofs.Parts.{job-noticeLocal}
+use Rattle.event_notice.proofs.Parts.{job-noticeLocal, affected-open}
 use Rattle.theorem_invariant.proofs.Reissued.{reissuedJob, job-reissue}
 use Rattle.dispatcher.specs.Codes.{ADMIT, STEAL, DELIVER, START, DONE, DIE, NOTICE}
 use Rattle.dispatcher.specs.Step.{codeOf, firstOf, secondOf, stepOf}
@@ -58,8 +58,7 @@ change-reissued : (u : Job) (b p : ℕ) → Change false false (affected u b) p 
 unfolding reissuedJob
 change-reissued u b p =
     byBool (affected u b)
-    (λ e. rw (e, reissuedJob) (finding refl refl refl
-    (eqb-true (u .state) OPEN (and-left (eqb (u .state) OPEN) (eqb (u .holder) b || eqb (u .moving) 1 && eqb (u .thief) b) e)) refl))
+    (λ e. rw (e, reissuedJob) (finding refl refl refl (affected-open u b e) refl))
     (λ e. rw (e, reissuedJob) (other refl refl refl (same-job u u refl)))
 
 module _ (t : Table) (w : Invariant t) (j : ℕ) (l : j < 64) where

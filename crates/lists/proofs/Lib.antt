@@ -7,3 +7,4 @@ pub mod Chains
 pub mod Lowest
 pub mod Slices
 pub mod Shift
+pub mod Set

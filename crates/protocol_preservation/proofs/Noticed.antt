@@ -2,7 +2,7 @@
 -- Assumes nothing.
 use Prim.Native.Nat.{ℕ, suc, _+_, _<_}
 use mathlib.Core.Path.{_≡_, refl, sym, ap, _∙_, subst}
-use mathlib.Core.Bool.{true, not, _&&_, _||_}
+use mathlib.Core.Bool.{true, not, _&&_}
 use native.Mathlib.Omega.{arith}
 use borrow.Author.Tests.{eqb-true, eqb-false, not-true}
 use lib.Dec.{eqb}
@@ -20,7 +20,7 @@ use Rattle.table.proofs.Messages.{sized-keepMessages}
 use Rattle.validity_element.specs.Element.{copyOk}
 use Rattle.validity.specs.Validity.{maxReplica}
 use Rattle.event_notice.specs.Notice.{informed, clearWait, returnReserved, noticeLocal, affected, reissueOne, reissue, noticed}
-use Rattle.event_notice.proofs.Parts.{job-informed, machine-informed, entries-informed}
+use Rattle.event_notice.proofs.Parts.{job-informed, machine-informed, entries-informed, affected-open}
 use Rattle.event_notice.proofs.Cases.{Noticing}
 use Rattle.protocol_preservation.proofs.Ok.{Ok, Valid, machine-count-some, machine-count-most}
 use Rattle.protocol_preservation.proofs.Passed.{facts}
@@ -185,7 +185,7 @@ module _ (t : Table) (s : Sized t) (o : Ok t) (b : ℕ) (bm : b < t .«machine_c
       let v = jobAt t j in
       let jb : jobAt u j ≡ v = f .job j ∙ job-informed t 0 b j in
       let l : affected v b ≡ true = ap (λ (w : Job). affected w b) (sym jb) ∙ e in
-      let st : v .state ≡ OPEN = eqb-true _ _ (and-left (eqb (v .state) OPEN) (eqb (v .holder) b || eqb (v .moving) 1 && eqb (v .thief) b) l) in
+      let st : v .state ≡ OPEN = affected-open v b l in
       let c = job-copy (t .«machine_count») (t .«entry_count») (maxReplica t) j v (o .job j h)
       (state-job (t .«machine_count») (t .«entry_count») (maxReplica t) j v (λ z. omega arith)) in
       let rp : jobAt u j .replica ≡ v .replica = ap (λ (w : Job). w .replica) jb in

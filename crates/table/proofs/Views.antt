@@ -5,15 +5,13 @@ use mathlib.Core.Logic.{_≢_}
 use mathlib.Core.List.{List}
 use Prim.Native.Nat.{ℕ, _+_, _*_, _≤_, _<_}
 use native.Mathlib.Omega.{arith}
-use borrow.Author.Tests.{ltb-true, ltb-false}
-use lib.Dec.{ltb}
 use lib.ListN.{length, length-set}
-use lib.Seq.{getD-set-same, getD-set-other, set-out, length-take-le}
+use lib.Seq.{getD-set-same, getD-set-other, length-take-le}
 use Rattle.table.specs.declared.Job.{Job}
 use Rattle.table.specs.declared.Machine.{Machine}
 use Rattle.table.specs.declared.Message.{Message}
 use Rattle.table.specs.declared.Table.{Table}
-use Rattle.lists.proofs.Cases.{byBool, byEq}
+use Rattle.lists.proofs.Set.{set-part}
 use Rattle.table.specs.Views.{noJob, noMachine, bondAt, jobAt, machineAt, poolAt, toldAt, messageAt, flight, withJob, withMachine, withPool}
 use Rattle.table.specs.Views.{withTold, withMessages}
 use Rattle.table.specs.Needs.{RoomFor}
@@ -366,12 +364,7 @@ pub ruleset views = (
 pub part-machine : {A : Type 0} (f : Machine → A) (t : Table) (m : ℕ) (v : Machine)
     → f v ≡ f (machineAt t m) → (k : ℕ) → f (machineAt (withMachine t m v) k) ≡ f (machineAt t k)
 unfolding machineAt withMachine
-part-machine f t m v e k =
-    byEq k m
-    (λ d. rw d (byBool (ltb m (length (t .machines)))
-    (λ l. rw (getD-set-same (t .machines) m v noMachine (ltb-true _ _ l)) e)
-    (λ l. rw (set-out (t .machines) m v (ltb-false _ _ l)))))
-    (λ d. rw (getD-set-other (t .machines) m k v noMachine d))
+part-machine f t m v e k = set-part f (t .machines) m v noMachine e k
 
 -- a machine's update that leaves it alive or dead as it was
 module _ (t : Table) (m : ℕ) (v : Machine) (e : v .alive ≡ machineAt t m .alive) where

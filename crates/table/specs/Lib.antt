@@ -1,3 +1,4 @@
+pub mod States
 pub mod Views
 pub mod Messages
 pub mod Parts

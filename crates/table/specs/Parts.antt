@@ -9,18 +9,9 @@ use Rattle.table.specs.declared.Message.{Message}
 use Rattle.table.specs.declared.Table.{Table}
 use Rattle.table.specs.declared.Answer.{Answer}
 use Rattle.table.specs.Views.{machineAt, refuse}
+pub use Rattle.table.specs.States.{NOT-ADMITTED, OPEN, PRICED}
 
 -- ---- a job
-
--- its states: "not admitted, open or priced"
-abbrev pub NOT-ADMITTED : ℕ
-NOT-ADMITTED = 0
-
-abbrev pub OPEN : ℕ
-OPEN = 1
-
-abbrev pub PRICED : ℕ
-PRICED = 2
 
 -- open, with this replica number, on the root
 unfoldable pub opened : ℕ → Job

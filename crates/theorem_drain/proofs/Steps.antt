@@ -15,18 +15,17 @@ use Rattle.event_start_done.specs.StartDone.{started, startOf, finished, doneOf
 use Rattle.event_notice.specs.Notice.{noticed, noticeOf}
 use Rattle.lists.proofs.Scans.{least-none, least-found}
 use Rattle.protocol_preservation.proofs.Facts.{MessageFacts}
-use Rattle.protocol_preservation.proofs.Ok.{passes}
-use Rattle.theorem_invariant.proofs.State.{Invariant}
+use Rattle.theorem_invariant.proofs.State.{Invariant, valid}
 use Rattle.theorem_invariant.proofs.Flight.{every-taken}
 use Rattle.dispatcher.specs.Codes.{DELIVER, START, DONE, NOTICE}
 use Rattle.dispatcher.specs.Step.{event, twoMachines, wellFormed, indicesInRange, eventOf, answerOf, stepOf}
-use Rattle.dispatcher.proofs.Preserved.{step-answer}
+use Rattle.dispatcher.proofs.Preserved.{valid-passes, step-answer}
 
 module _ (t : Table) (w : Invariant t) where
   -- past 9, 10 and 11
   step-event : (c a b : ℕ) → wellFormed (event c a b) ≡ true → indicesInRange t c a b ≡ true → stepOf t (event c a b) ≡ eventOf t c a b
   unfolding answerOf
-  step-event c a b f n = step-answer t (event c a b) (passes t (w .sized) (w .ok)) ∙ rw (f, n)
+  step-event c a b f n = step-answer t (event c a b) (valid-passes t (valid t w)) ∙ rw (f, n)
 
   two-machines : (c a b : ℕ) → twoMachines c ≡ true → a < t .«machine_count» → b < t .«machine_count» → indicesInRange t c a b ≡ true
   unfolding indicesInRange

@@ -18,7 +18,7 @@ use Rattle.table.specs.Views.{machineAt}
 use Rattle.table.proofs.Views.{Sized}
 use Rattle.validity_element.specs.Element.{emptyBond, bondOk, machineOk}
 use Rattle.validity.specs.Validity.{maxReplica, tableOk}
-use Rattle.protocol_preservation.proofs.Ok.{Ok, passes}
+use Rattle.protocol_preservation.proofs.Ok.{Ok, Valid, passes}
 use Rattle.table_opening.specs.Opening.{blank, freshOf, noTable, openOf}
 use Rattle.table_opening.proofs.Counts.{machine-count-most, entry-count-most}
 use Rattle.table_opening.proofs.Shown.{sized-fresh, machine-count-fresh, entry-count-fresh, used-fresh, bond-fresh, job-fresh, machine-fresh}
@@ -50,7 +50,7 @@ module _ (s : List ℕ) (e : bookVerdict s ≡ 0) where
       (λ l. let q = machine-fresh s m (ltb-true _ _ l) in simp (q, l, le-leb 0 (machineCount s) (omega arith)))
       (λ l. let q = machine-past s m (ltb-false _ _ l) h in simp q)
 
-  pub fresh-ok : Ok (freshOf s)
+  fresh-ok : Ok (freshOf s)
   fresh-ok =
       let q = machine-fresh s 0 (omega (arith, two)) in
       record {
@@ -72,6 +72,9 @@ module _ (s : List ℕ) (e : bookVerdict s ≡ 0) where
         root = simp q;
         told = λ m d h k. simp (told-fresh s);
       }
+
+  pub fresh-valid : Valid (freshOf s)
+  fresh-valid = record { sized = sized-fresh s; ok = fresh-ok }
 
   pub fresh-passes : tableOk (freshOf s) ≡ true
   fresh-passes = passes (freshOf s) (sized-fresh s) fresh-ok

@@ -10,10 +10,8 @@ use Rattle.lists.proofs.Count.{ind}
 use Rattle.table.specs.declared.Job.{Job}
 use Rattle.table.specs.declared.Table.{Table}
 use Rattle.table.specs.Views.{noJob, jobAt, machineAt, poolAt, flight}
-use Rattle.table.proofs.Views.{Sized}
-use Rattle.protocol_preservation.proofs.Ok.{Ok}
-use Rattle.protocol_preservation.proofs.Passed.{facts}
-use Rattle.theorem_invariant.proofs.State.{ReservationMatched, Transfer, Untold, Prices, Invariant}
+use Rattle.protocol_preservation.proofs.Ok.{Valid}
+use Rattle.theorem_invariant.proofs.State.{ReservationMatched, Transfer, Untold, Prices, Invariant, invariant}
 use Rattle.theorem_invariant.proofs.About.{reserves-none}
 
 -- what the invariant asks of a fresh table besides check 9
@@ -57,13 +55,7 @@ module _ (t : Table) (f : Fresh t) where
   pub fresh-prices : Prices t []
   fresh-prices = record { sent = tt; shown = λ j l e. absurd (none j 2 l e (λ d. omega arith)) }
 
-pub fresh-invariant : (t : Table) → Sized t → Ok t → Fresh t → Invariant t
-fresh-invariant t s o f = record {
-  sized = s;
-  ok = o;
-  facts = facts t s o;
-  reservation = rw (f .message) (fresh-reservation t f);
-  transfer = rw (f .message) (fresh-transfer t f);
-  untold = rw (f .message) (fresh-untold t f);
-  prices = rw (f .message) (fresh-prices t f);
-}
+pub fresh-invariant : (t : Table) → Valid t → Fresh t → Invariant t
+fresh-invariant t v f =
+    invariant t v (rw (f .message) (fresh-reservation t f)) (rw (f .message) (fresh-transfer t f)) (rw (f .message) (fresh-untold t f))
+    (rw (f .message) (fresh-prices t f))

@@ -1,20 +1,20 @@
 -- What the root does besides when it is told of a death: each affected job is issued again. The table after it, through its views.
 -- Assumes nothing.
 use mathlib.Core.Path.{_≡_, refl, _∙_}
-use mathlib.Core.Logic.{_≢_}
 use mathlib.Core.Bool.{cond}
 use Prim.Native.Nat.{ℕ, _+_, _≤_, _<_}
 use native.Mathlib.Nat.{not-suc-le-zero}
 use native.Mathlib.Omega.{arith}
-use Rattle.lists.proofs.Cases.{byBool, byEq, cond-elim}
+use Rattle.lists.proofs.Cases.{byBool, byEq}
 use Rattle.lists.proofs.Keeps.{up-each, up-keeps}
 use Rattle.table.specs.declared.Job.{Job}
 use Rattle.table.specs.declared.Table.{Table}
 use Rattle.table.specs.Views.{jobAt, machineAt, toldAt, flight, withJob}
 use Rattle.table.specs.Pools.{enter}
 use Rattle.table.specs.Parts.{opened}
-use Rattle.table.proofs.Views.{Sized, views, job-same, job-other, job-pool}
+use Rattle.table.proofs.Views.{Sized, views, job-same, job-pool}
 use Rattle.event_notice.specs.Notice.{affected, reissueOne, reissue}
+use Rattle.event_notice.proofs.Parts.{one, job-one-other, job-before}
 use Rattle.protocol_preservation.proofs.Sizes.{sized-reissueOne}
 
 -- the job after the death of b
@@ -23,22 +23,12 @@ reissuedJob v b = cond (affected v b) (opened (v .replica + 1)) v
 
 -- ---- one turn of the loop, for job j, which was v before
 
-one : {A : Type 0} (f : Table → A) (v : Job) (b j : ℕ) (u : Table) → f (enter (withJob u j (opened (v .replica + 1))) 0 j (v .replica + 1)) ≡ f u
-    → f (reissueOne v b j u) ≡ f u
-unfolding reissueOne
-one f v b j u e = cond-elim (λ w. f w ≡ f u) (affected v b) _ u e refl
-
 job-one : (v : Job) (b j : ℕ) (u : Table) → Sized u → j < 64 → jobAt u j ≡ v → jobAt (reissueOne v b j u) j ≡ reissuedJob v b
 unfolding reissueOne reissuedJob enter
 job-one v b j u s l e =
     byBool (affected v b)
     (λ c. rw (c, reissueOne) (job-pool (withJob u j (opened (v .replica + 1))) 0 j _ j ∙ job-same u s j (opened (v .replica + 1)) l))
     (λ c. rw (c, reissueOne) e)
-
-job-one-other : (v : Job) (b j k : ℕ) (u : Table) → k ≢ j → jobAt (reissueOne v b j u) k ≡ jobAt u k
-unfolding enter
-job-one-other v b j k u e =
-    one (λ w. jobAt w k) v b j u (job-pool (withJob u j (opened (v .replica + 1))) 0 j _ k ∙ job-other u j k (opened (v .replica + 1)) e)
 
 -- ---- the loop
 
@@ -79,6 +69,4 @@ module _ (t : Table) (b : ℕ) where
 
   pub job-reissue-past : (j : ℕ) → 64 ≤ j → jobAt (reissue t b) j ≡ jobAt t j
   unfolding reissue
-  job-reissue-past k h =
-      up-each (λ j u. reissueOne (jobAt t j) b j u) (λ n u. jobAt u k ≡ jobAt t k) 64
-      (λ j u l p. job-one-other (jobAt t j) b j k u (λ e. omega arith) ∙ p) t refl
+  job-reissue-past k h = job-before t b k 64 h
