@@ -1,5 +1,6 @@
 /* Document 01's listing through the C interface: builds the book entry by entry, opens it, gives the snapshot one event after another, and prints
- * what is refused, then the page of the same book and events in one call. Exit status 1 where something is not as the listing says. */
+ * what is refused, asking after each how many bonds are open, then the page of the same book and events in one call. Exit status 1 where something
+ * is not as the listing says. */
 #include <stdio.h>
 #include <string.h>
 
@@ -22,7 +23,8 @@ static const uint8_t EVENTS[11][3] = {
 static const char PAGE[] =
     "event 11 refused 20\n"
     "ZZ0000000016 priced 405A000000000000 replica 1\n"
-    "ZZ0000000024 not admitted\n";
+    "ZZ0000000024 not admitted\n"
+    "open 0\n";
 
 static uint8_t table[RAKHVIDE_TABLE];
 static uint8_t page[RAKHVIDE_PAGE];
@@ -48,6 +50,9 @@ static int one_event_after_another(void)
         if (number != 0)
             printf("event %zu refused %u\n", i + 1, number);
         if (number != (i == 10 ? 20 : 0) || rakhvide_check(table, sizeof table) != 0)
+            return 1;
+        /* one bond is open from its admission, the first event, to its RESULT, which the tenth delivers */
+        if (rakhvide_open_jobs(table, sizeof table) != (i < 9 ? 1 : 0))
             return 1;
     }
     return 0;

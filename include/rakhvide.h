@@ -7,7 +7,8 @@
  *   - a buffer that is written (no `const`) overlaps no other argument;
  *   - no other thread writes to a buffer during the call.
  * No function keeps a pointer, allocates, or has state of its own: calls on different buffers may run side by side.
- * A number of 0 is accepted. Any other is a refusal, and then every buffer, and *bits, holds what it held. rakhvide_page answers no number: see there.
+ * A number of 0 is accepted. Any other is a refusal, and then every buffer, and *bits, holds what it held. rakhvide_page and rakhvide_open_jobs answer
+ * no such number: see there.
  * A call needs up to 64 KiB of stack. */
 #ifndef RAKHVIDE_H
 #define RAKHVIDE_H
@@ -21,10 +22,11 @@ extern "C" {
 #endif
 
 /* No page is longer: the length that rakhvide_page asks of its buffer. */
-#define RAKHVIDE_PAGE 463072
+#define RAKHVIDE_PAGE 463080
 
-/* The length of a snapshot. One of another length, as those kept before request 2.3 are (5171 bytes), is no table: docs/LAYOUT.md. */
-#define RAKHVIDE_TABLE 5235
+/* The length of a snapshot. One of another length, as those kept before request 2.4 are (5235 bytes) and before 2.3 (5171), is no table:
+ * docs/LAYOUT.md. */
+#define RAKHVIDE_TABLE 5236
 
 /* An identifier by ISO 6166: 0, or 4 for its form (another length than 12 too), or 5 for its check digit. */
 uint8_t rakhvide_identifier(const uint8_t *identifier, size_t length);
@@ -55,7 +57,8 @@ uint8_t rakhvide_term(const uint8_t *term, size_t length, uint64_t *bits);
 uint64_t rakhvide_price_zero(uint8_t periods, uint8_t payments, double yield);
 uint64_t rakhvide_price_fixed(uint8_t periods, uint8_t payments, double coupon, double yield);
 
-/* The page of a book and a list of events, three bytes each, of which at most 60,000 bytes count.
+/* The page of a book and a list of events, three bytes each, of which at most 60,000 bytes count. After an accepted book its last line is "open" and
+ * the number of open jobs.
  * true: the page is the first *written bytes of out, and the rest of out is as it was.
  * false: out is shorter than RAKHVIDE_PAGE; it is as it was, and 0 is written to *written. */
 bool rakhvide_page(const uint8_t *book, size_t book_length, const uint8_t *events, size_t events_length,
@@ -82,6 +85,11 @@ uint8_t rakhvide_check(const uint8_t *table, size_t table_length);
  *   die (6)      20, 12          the machine is the root; is dead already;
  *   notice (7)   12, 21, 22      the machine is dead; the other is alive; it was told already. */
 uint8_t rakhvide_step(uint8_t *table, size_t table_length, const uint8_t *event, size_t event_length);
+
+/* How many jobs are open: admitted, and not priced. It is the number that the snapshot keeps, 0 to 64 where the table passes check 9, and one byte is
+ * read for it: the table is not looked over, and of a faulty one the answer is what stands there. 255 where the bytes have another length than
+ * RAKHVIDE_TABLE. */
+uint8_t rakhvide_open_jobs(const uint8_t *table, size_t table_length);
 
 #ifdef __cplusplus
 }

@@ -25,6 +25,7 @@ class Row(typing.NamedTuple):
     number: int  # of its refusal, or 0
     note: str  # what it did, or why it was refused
     machine: int | None  # whose event it is
+    open_jobs: int  # after it
 
 
 class Copy(typing.NamedTuple):
@@ -201,7 +202,7 @@ class History:
     def take(self, row: int, event: bytes, before: collections.abc.Iterable[CopyKey]) -> None:
         number, condition = self.table.step(event)
         note = condition if number else note_of(event, self.table, before)
-        self.rows.append(Row(lists.text_of(event), number, note, machine_of(event, self.table)))
+        self.rows.append(Row(lists.text_of(event), number, note, machine_of(event, self.table), self.table.open_jobs))
         self.follow(row)
         if number == 0 and event[0] == 6:
             self.deaths[event[1]] = row

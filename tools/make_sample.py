@@ -1,12 +1,12 @@
 #!/usr/bin/python3
-"""Writes the data and the output of the programs that print a page: rakhvide, rakhvide_sample and six more.
+"""Writes the data and the output of the programs that print a page: rakhvide, rakhvide_sample and eight more.
 
 To run, at the root of the repository: /usr/bin/python3 tools/make_sample.py
 It needs Python's standard library only (last run with Python 3.11).
 
 Each is the same program on other data:
 
-    rakhvide            the listing of document 01, "Examples", with the output printed there
+    rakhvide            the listing of document 01, "Examples", with the output printed there, and the last line
     rakhvide_sample     a book of 20 municipal and corporate bonds, a short one at a yield below 0 among them and some that pay yearly,
                         quarterly and monthly, and a list of events in which three machines steal from the root and from each other,
                         one of them dies with bonds in hand, its bonds come back under the next replica number, and every bond is
@@ -17,12 +17,15 @@ Each is the same program on other data:
     test_broken_event   a last event of two bytes
     test_turned_back    steals that are turned back, for each reason alone and for two at once
     test_full_channel   128 messages in flight, and then steals from a dead machine and from living ones
+    test_empty_book     a book without entries
+    test_still_open     twelve bonds admitted, of which one is priced, and gets a second RESULT
 
 The events of rakhvide_sample are chosen at random, with a fixed seed, by way of the table of model.py, which is documents 01 and 02
 in Python and shares nothing with the crates; its page is the model's, but the prices are decided by exact rational arithmetic whose
 every operation is rounded once to the nearest binary64, ties to even. The other pages are written here by hand from document 01's
-text, "The program's page", and those of test_turned_back and test_full_channel from document 02's, 2.5 and 2.10. The script fails where
-a price or a page of the model differs.
+text, "The program's page", and those of test_turned_back and test_full_channel from document 02's, 2.5 and 2.10; the last line after an
+accepted book, and what test_empty_book and test_still_open are about, is that of 2.4. The script fails where a price or a page of the
+model differs.
 
 The bonds are invented; their identifiers have the form and the check digit of ISO 6166. The result depends on nothing else.
 """
@@ -47,6 +50,7 @@ LISTING_EVENTS = bytes([1, 0, 0, 2, 1, 0, 3, 1, 0, 3, 0, 0, 3, 0, 0, 3, 0, 1, 4,
 LISTING = """event 11 refused 20
 ZZ0000000016 priced 405A000000000000 replica 1
 ZZ0000000024 not admitted
+open 0
 """
 
 SAMPLE_BONDS = [
@@ -106,13 +110,13 @@ def long_list() -> Program:
     """At most 60,000 bytes are read: event 20,000 has its line, and the two events after it have none and admit no bond."""
     idle = "steal 1 from 0\ndeliver 1 to 0\ndeliver 0 to 1\n"  # FISH, and NOWORK from an empty pool
     text = 6666 * idle + "steal 1 from 0\ndie 0\n" + "admit 0\ndie 0\n"
-    page = "event 20000 refused 20\nZZ0000000016 not admitted\n"
+    page = "event 20000 refused 20\nZZ0000000016 not admitted\nopen 0\n"
     return Program("test_long_list", books.book_of(2, LISTING_BONDS[:1]), lists.make(text), page)
 
 
 def broken_event() -> Program:
     """An event of too few bytes is refused 10: 1 1 is not the admission of the second bond."""
-    page = "event 4 refused 10\nZZ0000000016 open replica 1\nZZ0000000024 not admitted\n"
+    page = "event 4 refused 10\nZZ0000000016 open replica 1\nZZ0000000024 not admitted\nopen 1\n"
     text = "admit 0\nsteal 1 from 0\ndeliver 1 to 0\nraw 1 1\n"
     return Program("test_broken_event", books.book_of(2, LISTING_BONDS), lists.make(text), page)
 
@@ -137,8 +141,8 @@ def turned_back() -> Program:
         (25, "steal 0 from 2"),
         (0, "start 1 job 0"), (0, "done 1"), (0, "deliver 1 to 0"), (0, "deliver 1 to 0"),  # ACK and RESULT
     ]
-    entries = "ZZ0000000016 priced 405A000000000000 replica 1\nZZ0000000024 not admitted\n"
-    return answered("test_turned_back", books.book_of(3, LISTING_BONDS), listed, entries)
+    rest = "ZZ0000000016 priced 405A000000000000 replica 1\nZZ0000000024 not admitted\nopen 0\n"
+    return answered("test_turned_back", books.book_of(3, LISTING_BONDS), listed, rest)
 
 
 def full_channel() -> Program:
@@ -174,13 +178,32 @@ def full_channel() -> Program:
     ] + 128 * [(0, "deliver 1 to 0")]
     bonds = [entry(f"ZZ{number:09}", FIXED, 2, 4.0, 0.0) for number in range(1, 65)]
     entries = "".join(f"{bond.identifier.decode('ascii')} priced 405A000000000000 replica 1\n" for bond in bonds)
-    return answered("test_full_channel", books.book_of(5, bonds), listed, entries)
+    return answered("test_full_channel", books.book_of(5, bonds), listed, entries + "open 0\n")
 
 
-def answered(crate: str, book: bytes, listed: list[tuple[int, str]], entries: str) -> Program:
-    """A list of events, each with its number, and the lines of the entries after it."""
+def empty_book() -> Program:
+    """No entry has a line, and no bond can be admitted; the last line is printed all the same."""
+    return answered("test_empty_book", books.book_of(2, []), [(11, "admit 0"), (0, "steal 1 from 0")], "open 0\n")
+
+
+def still_open() -> Program:
+    """Two copies of bond 0 run: 1 dies while the bond moves from it to 2, and the root, told of the death, issues it anew. The first RESULT
+    finds it open, and there is one fewer; the second finds it priced, and there are as many."""
+    to_1 = ["steal 1 from 0", "deliver 1 to 0", "deliver 0 to 0", "deliver 0 to 0", "deliver 0 to 1", "deliver 1 to 0"]
+    to_2 = ["steal 2 from 1", "deliver 2 to 1", "deliver 1 to 0", "deliver 0 to 1", "die 1", "deliver 1 to 2"]
+    twice = ["notice 0 of 1", "start 2 job 0", "done 2", "start 0 job 0", "done 0"]
+    results = ["deliver 2 to 0", "deliver 2 to 0", "deliver 0 to 0"]  # a late ACK, RESULT, and RESULT again
+    listed = [(0, event) for event in [f"admit {job}" for job in range(12)] + to_1 + to_2 + twice + results]
+    bonds = [entry(f"ZZ{number:09}", FIXED, 2, 4.0, 0.0) for number in range(1, 13)]
+    first, *others = [bond.identifier.decode("ascii") for bond in bonds]
+    entries = f"{first} priced 405A000000000000 replica 2\n" + "".join(f"{bond} open replica 1\n" for bond in others)
+    return answered("test_still_open", books.book_of(3, bonds), listed, entries + "open 11\n")
+
+
+def answered(crate: str, book: bytes, listed: list[tuple[int, str]], rest: str) -> Program:
+    """A list of events, each with its number, and the rest of the page: the lines of the entries and the last line."""
     refused = "".join(f"event {place} refused {number}\n" for place, (number, _) in enumerate(listed, 1) if number)
-    return Program(crate, book, lists.make("".join(event + "\n" for _, event in listed)), refused + entries)
+    return Program(crate, book, lists.make("".join(event + "\n" for _, event in listed)), refused + rest)
 
 
 # The sample close.
@@ -252,7 +275,8 @@ def sample_close() -> Program:
         fail_unless(same, f"the model has another price of {bond.identifier.decode('ascii')}")
     book, events = books.book_of(SAMPLE_MACHINES, SAMPLE_BONDS), Close(random.Random(20)).events
     page = model.page(book, events)
-    fail_unless(page.count(" priced ") == len(SAMPLE_BONDS) and " replica 2\n" in page, "a bond is not priced, or none came back")
+    priced = page.count(" priced ") == len(SAMPLE_BONDS) and page.endswith("\nopen 0\n")
+    fail_unless(priced and " replica 2\n" in page, "a bond is not priced, or none came back")
     return Program("rakhvide_sample", book, events, page)
 
 
@@ -273,8 +297,9 @@ def write(program: Program) -> None:
 
 
 def main() -> None:
-    for program in (listing(), sample_close(), no_files(), refused_book(), long_list(), broken_event(), turned_back(), full_channel()):
-        write(program)
+    by_hand = listing, no_files, refused_book, long_list, broken_event, turned_back, full_channel, empty_book, still_open
+    for make in (*by_hand, sample_close):
+        write(make())
 
 
 if __name__ == "__main__":

@@ -8,7 +8,8 @@ followed by the price as a decimal number, which the program does not print. Wha
 docs/PROTOCOL.md, "The numbers". It needs Python 3.10 or later, and its standard library only.
 
 It is written from the text of documents 01 and 02 and shares nothing with the crates. It is the desk's second opinion, and it
-tells picture.py what happened at each event. It holds tables of runs only, which are never refused 9, so it has no check 9.
+tells picture.py what happened at each event. It holds tables of runs only, which are never refused 9; of check 9 it has the
+recount of the open jobs alone.
 
 A file that cannot be read counts as empty, as it does in the program, and is named on standard error. Of a list the first
 20,000 events are read; of a longer one the tool warns.
@@ -124,6 +125,7 @@ class Table:
         self.jobs: list[Job] = [Job() for _ in entries]
         self.machines: list[Machine] = [Machine() for _ in range(machines)]
         self.flight: list[Message] = []  # in order of sending
+        self.open_jobs = 0  # "The table keeps the number of open jobs" (document 02, 2.4)
         self.log: list[tuple[str, Message]] = []  # what became of messages, each after a word
         self.again: list[int] = []  # the jobs that got a new replica number
 
@@ -136,6 +138,9 @@ class Table:
         return number, condition
 
     def refusal(self, event: bytes) -> tuple[int, str]:
+        # "An event on a table whose kept number differs from the recount is refused 9." (document 02, 2.4)
+        if self.open_jobs != self.recount():
+            return 9, "the number of open jobs is not the recount"
         if len(event) < 3:
             return 10, "fewer than three bytes"
         code, a, b = event[:3]
@@ -151,6 +156,10 @@ class Table:
         if name not in WITHOUT_B and b >= counts[second]:
             return 11, f"no {second} {b}"
         return next(((number, words) for number, words, holds in REFUSALS[name] if holds(self, a, b)), (0, ""))
+
+    def recount(self) -> int:
+        """How many jobs are open, job by job."""
+        return sum(job.state == OPEN for job in self.jobs)
 
     def is_full(self) -> bool:
         return len(self.flight) >= MOST_IN_FLIGHT
@@ -176,6 +185,7 @@ class Table:
 
     def admit(self, a: int, _: int) -> None:
         self.jobs[a] = Job(OPEN, 1, (ROOT,))
+        self.open_jobs += 1
         self.machines[ROOT].add(a, 1)
 
     def steal(self, a: int, b: int) -> None:
@@ -283,6 +293,7 @@ class Table:
         job = self.jobs[m.job]
         if job.state == OPEN:
             job.state, job.price = PRICED, m.price
+            self.open_jobs -= 1
             self.log.append(("priced", m))
         else:
             self.log.append(("idle", m))
@@ -339,13 +350,15 @@ def job_line(entry: books.Entry, job: Job, decimal: bool) -> str:
 
 
 def page(book: bytes, events: bytes, decimal: bool = False) -> str:
+    """"After an accepted book the program prints "open" and this number as its last line" (document 02, 2.4)."""
     number = books.number_of(book)
     if number != 0:
         return f"book refused {number}\n"
     table = Table(*books.parts(book))
     numbers = [table.step(event)[0] for event in lists.events_of(events)]
     refused = [f"event {place} refused {number}\n" for place, number in enumerate(numbers, 1) if number != 0]
-    return "".join(refused) + "".join(job_line(entry, job, decimal) for entry, job in zip(table.entries, table.jobs))
+    listed = [job_line(entry, job, decimal) for entry, job in zip(table.entries, table.jobs)]
+    return "".join(refused + listed) + f"open {table.open_jobs}\n"
 
 
 def main() -> int:

@@ -9,10 +9,10 @@ more than 32,767 pixels, which some programs do not draw; the tool then says so.
 it does in the program, and is named on standard error. Of a list the first 20,000 events are read; of a longer one the tool
 warns. It needs Python 3.10 or later, and its standard library only.
 
-Time goes down, a row for each event; a machine is a lane, and the line in it is the machine's life. Left of the line stand
-the messages that come to the machine, each at the end of its arrow; right of it are the copies of the bonds that it holds,
-each a bar with the job's number. What happened is told by model.py (by way of history.py). What the number of a refusal means
-is in docs/PROTOCOL.md, "The numbers".
+Time goes down, a row for each event, with how many bonds are open after it; a machine is a lane, and the line in it is the
+machine's life. Left of the line stand the messages that come to the machine, each at the end of its arrow; right of it are
+the copies of the bonds that it holds, each a bar with the job's number. What happened is told by model.py (by way of
+history.py). What the number of a refusal means is in docs/PROTOCOL.md, "The numbers".
 
 The exit status is 0 where the picture is that of an accepted book and a list of events; 1 where one of the two files cannot be
 read (of a book without events.bin the picture is written all the same), or the picture cannot be written, or the title is
@@ -49,7 +49,8 @@ LEAST = 1120  # width of the picture
 HEAD = 26  # height of the names of the lanes
 LINE = 18  # height of a row with one pill
 HEADS = 50  # rows after which the names of the lanes stand again
-PLACE, EVENT, NOTE = 38, 112, 268  # widths at the left: place, event, note
+PLACE, EVENT, NOTE, OPEN = 38, 112, 268, 40  # widths at the left: place, event, note, number of open bonds
+OPEN_AT = MARGIN + PLACE + EVENT + NOTE + OPEN / 2  # the middle of that number
 BOND = 17  # height of a line of the list of bonds
 STATE, TERMS, COLUMN = 140, 308, 520  # in the list of bonds: where states begin, where terms and the next column begin at least
 TITLE = 21  # size of its letters
@@ -137,7 +138,7 @@ class Layout:
 
     def place_lanes(self) -> None:
         self.lanes: list[Lane] = []
-        x: float = MARGIN + PLACE + EVENT + NOTE
+        x: float = MARGIN + PLACE + EVENT + NOTE + OPEN
         for machine in range(len(self.history.table.machines)):
             stays = [stay for stay in runs.stays(self.history.copies) if stay[0].machine == machine]
             pills = [pill for (_, to), found in self.pills.items() if to == machine for pill in found]
@@ -194,6 +195,7 @@ def heads(layout: Layout) -> Elements:
     for at, y in enumerate(layout.heads):
         yield rect(MARGIN, y, layout.right - MARGIN, HEAD, DARK if at == 0 else "#6b747c")
         yield text(MARGIN + PLACE, y + HEAD / 2, "event", 11, "#ffffff", font_weight="bold")
+        yield text(OPEN_AT, y + HEAD / 2, "open", 11, "#ffffff", font_weight="bold", text_anchor="middle")
         for lane in layout.lanes:
             died = layout.history.deaths.get(lane.machine)
             dead = died is not None and layout.tops[died] < y
@@ -278,6 +280,16 @@ def log(layout: Layout) -> Elements:
         yield text(MARGIN + PLACE, layout.tops[-1] + LINE / 2, "in flight at the end", 10.5, SOFT)
 
 
+def open_bonds(layout: Layout) -> Elements:
+    """How many bonds are open after each event, bold where the number changes."""
+    before = 0
+    for row, event in enumerate(layout.history.rows):
+        changed, about = event.open_jobs != before, f"bonds open after event {row + 1}"
+        yield text(OPEN_AT, layout.tops[row] + LINE / 2, str(event.open_jobs), 10, INK if changed else SOFT, about,
+                   font_weight="bold" if changed else None, text_anchor="middle")
+        before = event.open_jobs
+
+
 # What stands above the lanes.
 
 
@@ -287,7 +299,7 @@ def summary(history: runs.History) -> str:
     fates = [flight.fate for flight in history.flights]
     return "   \u00b7   ".join([
         f"{desk.plural(len(history.rows), 'event')}, {refused} refused",
-        f"{states.count(model.PRICED)} priced, {states.count(model.OPEN)} open, {states.count(model.NOT_ADMITTED)} not admitted",
+        f"{states.count(model.PRICED)} priced, {history.table.open_jobs} open, {states.count(model.NOT_ADMITTED)} not admitted",
         f"{desk.plural(len(history.deaths), 'death')}, {desk.plural(len(history.notices), 'notice')}",
         f"{desk.plural(len(fates), 'message')}: {fates.count(runs.DELIVERED)} delivered, {fates.count(runs.DROPPED)} dropped, "
         f"{fates.count(runs.LOST)} lost, {fates.count(runs.IN_FLIGHT)} in flight"])
@@ -338,6 +350,7 @@ def legend_items() -> list[tuple[Sign, str]]:
         (pill_sign(f"RESULT 3 {TICK}", KINDS["RESULT"]), "prices job 3"),
         (pill_sign("told: 2 dead", DARK, False), "notice"),
         (pill_sign("refused 13", RED), "refused event, with its number"),
+        ((30, lambda x, y: [text(x, y, "open", 10.5, font_weight="bold")]), "bonds open after the event"),
     ]
 
 
@@ -398,7 +411,7 @@ def drawn(history: runs.History, title: str) -> Element:
     layout.place_rows(y + 16)
     height = layout.bottom + MARGIN
     parts = [hatch(), rect(0, 0, layout.width, height, PAPER), *above, *signs, *listed]
-    for part in (ground, bars, lifelines, arrows, heads, bar_labels, pills, log):
+    for part in (ground, bars, lifelines, arrows, heads, bar_labels, pills, log, open_bonds):
         parts += part(layout)
     return svg.picture(layout.width, height, FONT, title, parts)
 

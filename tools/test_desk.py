@@ -71,6 +71,7 @@ die 0
 LISTING_PAGE = """event 11 refused 20
 ZZ0000000016 priced 405A000000000000 replica 1
 ZZ0000000024 not admitted
+open 0
 """
 # Number, event, the events before it; three machines, two entries.
 REFUSALS = [
@@ -91,7 +92,9 @@ FIRST_PAGE = """event 24 refused 20
 US0378331005 priced 4059813F447C3D83 replica 2
 ZZ0000000016 priced 405A000000000000 replica 1
 ZZ0000000024 open replica 1
+open 1
 """
+FIRST_OPEN = [1, 2, *11 * [3], *9 * [2], 1, 1]  # after each event: three are admitted, events 14 and 23 deliver a RESULT
 
 
 def tool(name, *arguments, output=subprocess.PIPE, errors=subprocess.PIPE, before=None):
@@ -139,6 +142,15 @@ def random_run(seed, machines, entries, count):
         found.append(random_event(rng, table))
         table.step(found[-1])
     return book_bytes.book_of(machines, bonds), b"".join(found)
+
+
+def recounts(data, found):
+    """How many jobs are open after each event, job by job."""
+    table, counts = model.Table(*book_bytes.parts(data)), []
+    for event in events.events_of(found):
+        table.step(event)
+        counts.append([job.state for job in table.jobs].count(model.OPEN))
+    return counts
 
 
 def random_event(rng, table):
@@ -817,7 +829,7 @@ class Model(Folder):
     def test_programs(self):
         """The pages that the programs must print; test_no_files has no folder of data."""
         for crate, status in (("rakhvide", 0), ("rakhvide_sample", 0), ("test_refused_book", 3), ("test_long_list", 0), ("test_broken_event", 0),
-                              ("test_turned_back", 0), ("test_full_channel", 0)):
+                              ("test_turned_back", 0), ("test_full_channel", 0), ("test_empty_book", 0), ("test_still_open", 0)):
             done = tool("model.py", CRATES / crate / "data")
             self.assertEqual((done.stdout, done.returncode), ((CRATES / crate / "stdout").read_bytes(), status))
             self.assertEqual(b"events.bin has 20002 events: the first 20000 are read\n" in done.stderr, crate == "test_long_list")
@@ -915,17 +927,89 @@ class Model(Folder):
         count = len(text.splitlines())
         self.assertEqual(page.splitlines()[:3], [f"event {count + 2} refused 16", f"event {count + 3} refused 16",
                                                  f"{names(1)[0].decode()} open replica 1"])
+        self.assertEqual(page.splitlines()[-1], "open 64")
 
     def test_a_refused_event_changes_nothing(self):
         for seed in range(20):
             data, found = random_run(seed, 4, 5, 150)
             table = model.Table(*book_bytes.parts(data))
             for event in events.events_of(found):
-                before = repr((table.jobs, table.machines, table.flight))
+                before = self.content(table)
                 number, condition = table.step(event)
                 self.assertEqual(number == 0, condition == "")
                 if number:
-                    self.assertEqual(repr((table.jobs, table.machines, table.flight)), before)
+                    self.assertEqual(self.content(table), before)
+
+    def content(self, table):
+        return repr((table.jobs, table.machines, table.flight, table.open_jobs))
+
+    def test_open_jobs_by_hand(self):
+        """Document 02, 2.4. The number after each event: an admission raises it, and a RESULT that finds its job open lowers it."""
+        table = self.table("")
+        for number, *lines in (
+                (0, "steal 2 from 1", "deliver 2 to 1", "deliver 1 to 2"), (1, "admit 0"), (2, "admit 1"),
+                (2, "steal 1 from 0", "deliver 1 to 0", "deliver 0 to 0", "deliver 0 to 0", "deliver 0 to 1", "deliver 1 to 0"),  # the last is an ACK
+                (2, "steal 2 from 1", "deliver 2 to 1", "deliver 1 to 0", "deliver 0 to 1", "deliver 1 to 2"),
+                (2, "die 1", "notice 0 of 1"),  # bond 0 is back on 0, as replica 2
+                (2, "start 0 job 0", "start 2 job 0", "done 0", "done 2"),
+                (1, "deliver 0 to 0"),  # RESULT
+                (1, "deliver 2 to 0", "deliver 2 to 0"),  # a late ACK, and the RESULT of replica 1, which finds the bond priced
+                (1, "start 0 job 1", "done 0"), (0, "deliver 0 to 0")):
+            for line in lines:
+                self.assertEqual((table.step(events.make(line)), table.open_jobs), ((0, ""), number), line)
+        self.assertEqual((table.step(events.make("admit 0"))[0], table.open_jobs), (13, 0))
+
+    def test_open_jobs_equal_a_recount(self):
+        """"For every table reached from a fresh one it equals a full recount"; the page has both."""
+        lowered = 0
+        for seed in range(20):
+            data, found = random_run(seed, 4, 30, 400)
+            table, kept = model.Table(*book_bytes.parts(data)), []
+            for event in events.events_of(found):
+                self.assertNotEqual(table.step(event)[0], 9)
+                kept.append(table.open_jobs)
+            self.assertEqual(kept, recounts(data, found))
+            page = model.page(data, found)
+            self.assertEqual((page.splitlines()[-1], page.count(" open replica ")), (f"open {kept[-1]}", kept[-1]))
+            lowered += sum(after < before for before, after in zip(kept, kept[1:]))
+        self.assertGreater(lowered, 100)
+
+    def test_a_wrong_number_is_refused_9(self):
+        """"An event on a table whose kept number differs from the recount is refused 9": any event, before 10, and nothing changes."""
+        for number in (0, 2, 64, 255):
+            table = self.table("admit 0\nsteal 1 from 0\n")
+            table.open_jobs = number
+            before = self.content(table)
+            for line in ("admit 1", "deliver 1 to 0", "admit 0", "admit 9", "raw 9 9 9", "raw 1", "die 0"):
+                self.assertEqual((table.step(events.make(line))[0], self.content(table)), (9, before), line)
+            table.open_jobs = 1
+            self.assertEqual(table.step(events.make("admit 1")), (0, ""))
+        for job, state, right in ((0, model.PRICED, 0), (0, model.NOT_ADMITTED, 0), (1, model.OPEN, 2), (1, model.PRICED, 1)):
+            table = self.table("admit 0\nsteal 1 from 0\n")
+            table.jobs[job].state = state
+            for number in (0, 1, 2, 3):
+                table.open_jobs = number
+                self.assertEqual(table.refusal(events.make("deliver 1 to 0"))[0], 0 if number == right else 9)
+
+    def test_the_last_line(self):
+        """"After an accepted book the program prints "open" and this number as its last line"."""
+        accepted = [data for number, data in book_cases() if number == 0]
+        for data in accepted:
+            for admitted in (0, data[2]):
+                lines = model.page(data, b"".join(bytes([1, job, 0]) for job in range(admitted))).splitlines()
+                self.assertEqual((len(lines), lines[-1]), (data[2] + 1, f"open {admitted}"))
+        for crate, last in (("rakhvide", "open 0"), ("rakhvide_sample", "open 0"), ("test_long_list", "open 0"), ("test_broken_event", "open 1"),
+                            ("test_turned_back", "open 0"), ("test_full_channel", "open 0"), ("test_empty_book", "open 0"),
+                            ("test_still_open", "open 11"), ("test_refused_book", "book refused 5"), ("test_no_files", "book refused 1")):
+            self.assertEqual((CRATES / crate / "stdout").read_text().splitlines()[-1], last)
+
+    def test_a_book_without_bonds(self):
+        """It has no other line but those of refused events."""
+        self.file("book.bin", b"\2\0\0\0")
+        self.file("events.bin", b"")
+        self.assert_page("open 0\n", 0)
+        self.file("events.bin", events.make("admit 0\nsteal 1 from 0\ndie 0\n"))
+        self.assert_page("event 1 refused 11\nevent 3 refused 20\nopen 0\n", 0)
 
     def assert_page(self, page, status, *unread):
         """The folder's page and exit status, and the files that are named as not read."""
@@ -934,7 +1018,7 @@ class Model(Folder):
         self.assertEqual((done.stdout.decode(), done.returncode, done.stderr.decode().splitlines()), (page, status, said))
 
     def test_files_that_are_not_there(self):
-        none, bare = "No such file or directory", "ZZ0000000016 not admitted\nZZ0000000024 not admitted\n"
+        none, bare = "No such file or directory", "ZZ0000000016 not admitted\nZZ0000000024 not admitted\nopen 0\n"
         self.assert_page("book refused 1\n", 1, ("book.bin", none), ("events.bin", none))
         self.file("book.bin", book.make(LISTING_BOOK))
         self.assert_page(bare, 1, ("events.bin", none))
@@ -958,7 +1042,7 @@ class Model(Folder):
         done = tool("model.py", self.folder)
         lines = done.stdout.decode().splitlines()
         self.assertIn(b"warning: %b has 20001 events: the first 20000 are read\n" % bytes(self.folder / "events.bin"), done.stderr)
-        self.assertEqual((len(lines), lines[19999], lines[20000]), (20002, "event 20000 refused 10", "ZZ0000000016 not admitted"))
+        self.assertEqual((len(lines), lines[19999], lines[20000]), (20003, "event 20000 refused 10", "ZZ0000000016 not admitted"))
         self.file("book.bin", book.make(LISTING_BOOK) + bytes(100000))
         self.file("events.bin", bytes(desk.MOST_BYTES + 1))
         done = tool("model.py", self.folder)
@@ -1026,6 +1110,33 @@ class Picture(Folder):
         waits = {wait.machine: wait.end for wait in run.waits if wait.victim == 3}
         self.assertEqual(waits, notices)
         self.assertEqual(sum(row.note == "128 messages in flight" and row.text == "done 1" for row in run.rows), 2)
+
+    def test_open_bonds(self):
+        """Document 02, 2.4: the number after each event, as a recount has it, and at the end above the lanes."""
+        first = book.make((FIRST / "book.csv").read_text()), events.make((FIRST / "events.txt").read_text())
+        self.assertEqual(recounts(*first), FIRST_OPEN)
+        for data, found in (first, random_run(7, 4, 64, 500), random_run(8, 3, 2, 100), model.read_folder(CRATES / "rakhvide_sample" / "data")[:2]):
+            counts, words = recounts(data, found), self.drawn(data, found)
+            self.assertEqual([row.open_jobs for row in history.History(*book_bytes.parts(data), found).rows], counts)
+            self.assertEqual([text for text in words if text.startswith("bonds open after event ")],
+                             [f"bonds open after event {place}{count}" for place, count in enumerate(counts, 1)])
+            self.assertEqual(sum(f" priced, {counts[-1]} open, " in text for text in words), 1)
+
+    def test_open_bonds_have_room(self):
+        """The numbers and their heads stand between the notes and the first lane, and are bold where the number changes."""
+        data, found = random_run(9, 16, 64, 300)
+        counts = recounts(data, found)
+        self.assertGreater(max(counts), 9)
+        layout = picture.Layout(history.History(*book_bytes.parts(data), found))
+        layout.place_rows(0)
+        shown, heads = list(picture.open_bonds(layout)), [node for node in picture.heads(layout) if node.text == "open"]
+        self.assertEqual([node.get("font-weight") == "bold" for node in shown], [after != before for before, after in zip([0, *counts], counts)])
+        self.assertEqual((len(shown), len(heads)), (300, len(layout.heads)))
+        notes = picture.MARGIN + picture.PLACE + picture.EVENT + picture.NOTE
+        for node in shown + heads:
+            words, x, size = node.text or node[0].tail, float(node.get("x")), float(node.get("font-size"))
+            half = svg.width_of(words, svg.BOLD * size) / 2
+            self.assertTrue(notes < x - half and x + half < layout.lanes[0].x, words)
 
     def test_random_runs(self):
         for seed, machines, entries, count in ((1, 2, 1, 80), (2, 2, 0, 5), (3, 16, 64, 300), (4, 5, 9, 400), (5, 3, 4, 0), (6, 8, 20, 200)):

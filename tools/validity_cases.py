@@ -4,16 +4,16 @@
 To run, at the root of the repository: /usr/bin/python3 tools/validity_cases.py
 
 A case is a label, the changes made to one table that passes check 9, and the answer expected: 0 or 9. Each expectation is
-read off document 01, "The table" and row 9 of "Where each refusal is checked", and off document 02, 2.1 for yields and 2.3
-for payments; their words stand above the cases, and no program of this repository decides one. A case that passes stands
-beside those refused where the two differ little.
+read off document 01, "The table" and row 9 of "Where each refusal is checked", and off document 02, 2.1 for yields, 2.3 for
+payments and 2.4 for the number of open jobs; their words stand above the cases, and no program of this repository decides
+one. A case that passes stands beside those refused where the two differ little.
 
 The table that every case starts from (crates/test_validity/src/tables.rt builds it): 4 machines, of which 3 is dead and the
 root was told of it, so that no replica number is above 2; 3 entries with two payments a year. Job 0 is open with replica 1,
-moving from 1 to 2; job 1 is priced with replica 2, on 3; job 2 is not admitted. Machine 1 has the copy (job 0, replica 1,
-thief 2) reserved and waits on 0; machine 2 runs (job 1, replica 2). The pool of 0 has job 1 with replica 2, that of 2 has
-job 0 with replica 1. In flight are FISH from 2 to 1, AUTH (job 0, replica 1, thief 2) from 0 to 1, RESULT (job 1, replica
-2, a price) from 2 to 0.
+moving from 1 to 2; job 1 is priced with replica 2, on 3; job 2 is not admitted; the number of open jobs is 1. Machine 1 has
+the copy (job 0, replica 1, thief 2) reserved and waits on 0; machine 2 runs (job 1, replica 2). The pool of 0 has job 1 with
+replica 2, that of 2 has job 0 with replica 1. In flight are FISH from 2 to 1, AUTH (job 0, replica 1, thief 2) from 0 to 1,
+RESULT (job 1, replica 2, a price) from 2 to 0.
 """
 from vector_files import ROOT, fail_unless
 
@@ -24,7 +24,7 @@ CHANGES = 8  # changes of a case at most
 # The fields, numbered from 1.
 FIELDS = """machines entries in_flight periods zero_yield coupon yield state replica moving holder thief price alive
 reserved_job reserved_replica reserved_thief running_job running_replica waits told pool
-kind from to job copy for bits payments""".split()
+kind from to job copy for bits payments open_jobs""".split()
 
 # The rates of a bond's terms; the last three are the number next below -0.5, -0.5, the number next above it.
 PLUS_0, MINUS_0, BELOW_0, ONE, ABOVE_ONE, HUNDRED, ABOVE_HUNDRED, NAN, BELOW_LEAST, LEAST, ABOVE_LEAST = range(11)
@@ -40,6 +40,15 @@ def pool(machine, job, replica):
     return ("pool", 64 * machine + job, replica)
 
 
+def count(number):
+    return ("open_jobs", 0, number)
+
+
+def state(job, value, number, answer):
+    """A case of a job's state, with the number of open jobs that the table has then."""
+    return [(f"state {job} is {value}", [("state", job, value), count(number)], answer)]
+
+
 def slot(i, **parts):
     """Changes of the message in slot i; "from" is a word of Python, so it is written sender here."""
     return [("from" if name == "sender" else name, i, value) for name, value in parts.items()]
@@ -48,6 +57,11 @@ def slot(i, **parts):
 def one(field, place, *answers):
     """A case for each value of one field: pairs of the value and the answer."""
     return [(f"{field} {place} is {value}", [(field, place, value)], answer) for value, answer in answers]
+
+
+def numbers(label, changes, *answers):
+    """A case for each number of open jobs beside the same changes: pairs of the number and the answer."""
+    return [(f"{label}, number {number}", changes + [count(number)], answer) for number, answer in answers]
 
 
 CASES = []
@@ -85,17 +99,34 @@ CASES += one("zero_yield", 3, (PLUS_0, 0), (MINUS_0, 9), (BELOW_0, 9), (ONE, 9),
 CASES += [("an entry less", [("entries", 0, 2)], 9)]
 
 # "not admitted, open or priced"; "a job not admitted has replica 0 and place 0, a job not priced has price bits 0"
-CASES += one("state", 0, (0, 9), (2, 0), (3, 9)) + one("state", 1, (0, 9), (1, 9)) + one("state", 2, (1, 9), (2, 9))
+CASES += state(0, 0, 0, 9) + state(0, 2, 0, 0) + state(0, 3, 0, 9)
+CASES += state(1, 0, 1, 9) + state(1, 1, 2, 9) + state(2, 1, 2, 9) + state(2, 2, 1, 9)
 CASES += one("replica", 2, (1, 9)) + one("moving", 2, (1, 9)) + one("holder", 2, (1, 9)) + one("thief", 2, (1, 9))
 CASES += one("price", 2, (1, 9)) + one("price", 0, (1, 9)) + one("price", 1, (0, 0), (1, 0))
-CASES += [("job 2 open, on 0", [("state", 2, 1), ("replica", 2, 1)], 0)]
-CASES += [("job 2 priced, on 0", [("state", 2, 2), ("replica", 2, 1)], 0)]
-# "an unused part not 0": jobs of entry numbers from n on
-CASES += [("job 3 open, on 0", [("state", 3, 1), ("replica", 3, 1)], 9)] + one("price", 63, (1, 9))
+OPEN_2, PRICED_2 = [("state", 2, 1), ("replica", 2, 1)], [("state", 2, 2), ("replica", 2, 1)]
+CASES += [("job 2 open, on 0", OPEN_2 + [count(2)], 0)]
+CASES += [("job 2 priced, on 0", PRICED_2, 0)]
+# "an unused part not 0": jobs of entry numbers from n on, counted or not
+OPEN_3 = [("state", 3, 1), ("replica", 3, 1)]
+CASES += [("job 3 open, on 0", OPEN_3 + [count(2)], 9), ("job 3 open, not counted", OPEN_3, 9)] + one("price", 63, (1, 9))
 # "its place (on p, or moving from v to t)": a machine number is below the count; a dead machine is not named by row 9
 CASES += one("moving", 0, (0, 9), (2, 9)) + one("holder", 0, (3, 0), (4, 9)) + one("thief", 0, (1, 0), (3, 0), (4, 9))
 CASES += one("holder", 1, (0, 0), (4, 9)) + one("thief", 1, (1, 9))
 CASES += [("job 0 on 1", [("moving", 0, 0), ("thief", 0, 0)], 0)]
+
+# "The table keeps the number of open jobs." "An event on a table whose kept number differs from the recount is refused 9."
+# (document 02, 2.4)
+CASES += one("open_jobs", 0, (0, 9), (1, 0), (2, 9), (3, 9), (64, 9), (65, 9), (255, 9))
+CASES += numbers("job 2 open", OPEN_2, (0, 9), (1, 9), (2, 0), (3, 9)) + numbers("job 2 priced", PRICED_2, (0, 9), (1, 0), (2, 9))
+PRICED_0, OPEN_1 = [("state", 0, 2)], [("state", 1, 1), ("price", 1, 0)]
+CASES += numbers("job 0 priced", PRICED_0, (0, 0), (1, 9), (2, 9)) + numbers("jobs 0 and 1 open", OPEN_1, (1, 9), (2, 0), (3, 9))
+CASES += numbers("job 0 priced, job 2 open", PRICED_0 + OPEN_2, (0, 9), (1, 0), (2, 9))
+CASES += numbers("all three open", OPEN_1 + OPEN_2, (0, 9), (1, 9), (2, 9), (3, 0), (4, 9))
+CASES += numbers("all three priced", PRICED_0 + PRICED_2, (0, 0), (1, 9), (3, 9))
+NOT_ADMITTED_0 = [(field, 0, 0) for field in ("state", "replica", "moving", "holder", "thief")]
+CASES += numbers("job 0 not admitted", NOT_ADMITTED_0, (0, 0), (1, 9))
+FOURTH = [("entries", 0, 4), ("periods", 3, 1), ("payments", 3, 2)]
+CASES += numbers("a fourth entry, open", FOURTH + OPEN_3, (1, 9), (2, 0), (3, 9))
 
 # "alive or dead"; "a root not alive"; machines from the count on are unused parts
 CASES += one("alive", 1, (2, 9)) + one("alive", 4, (1, 9)) + one("alive", 15, (1, 9)) + one("alive", 0, (0, 9))

@@ -2,7 +2,7 @@
 //! in which all of them take turns, so that what else the machine does falls on all alike. With the name of a file, the tables of
 //! events alone, and in them the library of that file too.
 
-#[allow(dead_code)] // of the functions for C that of one term is not measured
+#[allow(dead_code)] // of the functions for C those of one term and of the open jobs are not measured
 #[path = "../../compare/src/bin/compare/c.rs"]
 mod c;
 mod identifiers;

@@ -48,11 +48,13 @@ pub enum Fault {
     RootNotAlive,
     LivingToldDead,
     ReplicaTooLarge,
+    // document 02, 2.4: "a table whose kept number differs from the recount"
+    OpenJobs,
 }
 
 impl Fault {
     /// Every condition.
-    pub const ALL: [Fault; 36] = [
+    pub const ALL: [Fault; 37] = [
         Fault::MachineCount,
         Fault::EntryCount,
         Fault::MessageCount,
@@ -89,6 +91,7 @@ impl Fault {
         Fault::RootNotAlive,
         Fault::LivingToldDead,
         Fault::ReplicaTooLarge,
+        Fault::OpenJobs,
     ];
 }
 
@@ -101,7 +104,8 @@ struct Limits {
     replica: u8,
 }
 
-/// Whether a table passes check 9, or one of the conditions that it fails.
+/// Whether a table passes check 9, or one of the conditions that it fails: the last one only where it fails no
+/// other.
 pub fn check(table: &Table) -> Verdict {
     let limits = counts(table)?;
     for entry in 0..ENTRIES {
@@ -116,7 +120,8 @@ pub fn check(table: &Table) -> Verdict {
     for slot in 0..MESSAGES {
         message(table, slot, &limits)?;
     }
-    need(table.alive(0), Fault::RootNotAlive)
+    need(table.alive(0), Fault::RootNotAlive)?;
+    need(table.open_jobs == table.recount(), Fault::OpenJobs)
 }
 
 fn need(holds: bool, fault: Fault) -> Verdict {
@@ -252,6 +257,8 @@ fn carried(message: &Message, limits: &Limits) -> Verdict {
 mod tests {
     use super::*;
     use crate::book::Book;
+    use crate::events::step;
+    use crate::page::tests::LISTING_BOOK;
 
     fn fresh() -> Table {
         Table::open(&Book::read(&[3, 0, 0, 0]).unwrap())
@@ -293,5 +300,20 @@ mod tests {
         assert_eq!(faulty(|t| t.pools[1][0] = 1), Fault::UnusedPool);
         assert_eq!(faulty(|t| t.machine[1].waits = 4), Fault::WaitNumber);
         assert_eq!(faulty(|t| t.messages[0].kind = FISH), Fault::UnusedSlot);
+        assert_eq!(faulty(|t| t.open_jobs = 1), Fault::OpenJobs);
+    }
+
+    /// "An event on a table whose kept number differs from the recount is refused 9." (document 02, 2.4) Here
+    /// it is an event of no bytes, which is else refused 10.
+    #[test]
+    fn kept_number() {
+        let mut table = Table::open(&Book::read(LISTING_BOOK).unwrap());
+        for open in 0..2 {
+            for kept in 0..=u8::MAX {
+                let mut changed = Table { open_jobs: kept, ..table.clone() };
+                assert_eq!(step(&mut changed, &[]), if kept == open { 10 } else { 9 });
+            }
+            assert_eq!(step(&mut table, &[1, open, 0]), 0);
+        }
     }
 }

@@ -49,11 +49,13 @@ fn accept(table: &mut Table, event: &[u8]) -> Answer {
     }
 }
 
-/// "job a becomes open, replica 1, on 0, and enters the root's pool."
+/// "job a becomes open, replica 1, on 0, and enters the root's pool." It is one more of "the number of open
+/// jobs" that the table keeps (document 02, 2.4).
 fn admit(table: &mut Table, a: u8) -> Answer {
     let job = &mut table.jobs[usize::from(a)];
     refuse(job.state != NOT_ADMITTED, 13)?;
     *job = Job { state: OPEN, replica: 1, ..Job::NONE };
+    table.open_jobs += 1;
     table.add_to_pool(0, a, 1);
     Ok(())
 }
@@ -242,12 +244,13 @@ fn ack(table: &mut Table, message: &Message) {
 }
 
 /// "RESULT: an open job becomes priced with this price, whichever replica it came from; any other job is
-/// untouched."
+/// untouched." With an open job the kept number is one less (document 02, 2.4).
 fn result(table: &mut Table, message: &Message) {
     let job = &mut table.jobs[usize::from(message.job)];
     if job.state == OPEN {
         job.state = PRICED;
         job.price = message.price;
+        table.open_jobs -= 1;
     }
 }
 
@@ -310,6 +313,56 @@ mod tests {
         assert_eq!(step(&mut told, &[2, 1, 1]), 12);
         told.machine[0].waits = 2;
         assert_eq!(step(&mut told, &[2, 0, 1]), 24);
+    }
+
+    /// The number of open jobs after each event; "it equals a full recount" (document 02, 2.4).
+    fn open_after(events: &[[u8; 3]]) -> Vec<u8> {
+        let counts = (1..=events.len()).map(|length| {
+            let table = played(&events[..length]);
+            assert_eq!(table.open_jobs, table.recount());
+            table.open_jobs
+        });
+        counts.collect()
+    }
+
+    /// Machine 1 gets job 0 and hands it back, and the root runs it when machine 1 dies: replica 2 enters the
+    /// root's pool, and each replica gives a RESULT. The first prices the job, the second finds it priced.
+    #[test]
+    fn late_result_leaves_the_number() {
+        let admitted = [[1, 0, 0], [1, 1, 0]];
+        assert_eq!(open_after(&admitted), [1, 2]);
+        let there = [[2, 1, 0], [3, 1, 0], [3, 0, 0], [3, 0, 0], [3, 0, 1], [3, 1, 0]];
+        let back = [[2, 0, 1], [3, 0, 1], [3, 1, 0], [3, 0, 1], [3, 1, 0]];
+        let replicas = [[4, 0, 0], [6, 1, 0], [7, 0, 1], [5, 0, 0], [3, 0, 0]];
+        let before = [&admitted[..], &there, &back, &replicas].concat();
+        assert!(open_after(&before)[2..].iter().all(|&number| number == 2));
+        let late = [&before[..], &[[3, 0, 0], [4, 0, 0], [5, 0, 0]]].concat();
+        assert_eq!(played(&late).in_flight()[0].kind, RESULT);
+        let all = [&late[..], &[[3, 0, 0], [4, 0, 1], [5, 0, 0], [3, 0, 0]]].concat();
+        assert_eq!(open_after(&all)[before.len()..], [1, 1, 1, 1, 1, 1, 0]);
+    }
+
+    /// "For every table reached from a fresh one it equals a full recount" (document 02, 2.4): runs of events
+    /// at random, those that are refused too.
+    #[test]
+    fn kept_number_is_the_recount() {
+        let mut state = 1u32;
+        let mut below = |bound: u32| {
+            state = state.wrapping_mul(1_664_525).wrapping_add(1_013_904_223);
+            ((state >> 16) % bound) as u8
+        };
+        let mut seen = [0; 3];
+        for _ in 0..60 {
+            let mut table = played(&[]);
+            for _ in 0..400 {
+                let code = [1, 2, 3, 3, 3, 3, 4, 5, 7][usize::from(below(9))];
+                let event = if below(400) == 0 { [6, 1, 0] } else { [code, below(2), below(2)] };
+                assert_ne!(step(&mut table, &event), 9);
+                assert_eq!(table.open_jobs, table.recount());
+                seen[usize::from(table.open_jobs)] += 1;
+            }
+        }
+        assert!(seen.iter().all(|&tables| tables > 500), "{seen:?}");
     }
 
     /// 128 messages in flight, all from the root to itself.

@@ -7,8 +7,9 @@ use std::fmt::Write;
 
 /// "events.bin (at most 60,000 bytes; later ones are not read)"
 pub const EVENT_BYTES: usize = 60_000;
-/// No page is longer: a line of 23 bytes for each event, and one of 48 for each entry.
-pub const LONGEST: usize = EVENT_BYTES / 3 * 23 + ENTRIES * 48;
+/// No page is longer: a line of 23 bytes for each event, one of 48 for each entry, and one of 8 for the number
+/// of open jobs.
+pub const LONGEST: usize = EVENT_BYTES / 3 * 23 + ENTRIES * 48 + 8;
 
 /// The page of a book and the bytes of its events.
 pub fn page(book: &[u8], events: &[u8]) -> String {
@@ -18,7 +19,8 @@ pub fn page(book: &[u8], events: &[u8]) -> String {
     }
 }
 
-/// "each refused event prints a line [..] Then each entry prints a line". The table of a run passes
+/// "each refused event prints a line [..] Then each entry prints a line"; and, by document 02, 2.4: "After an
+/// accepted book the program prints "open" and this number as its last line". The table of a run passes
 /// check 9, so it is not looked over again.
 fn run(book: &Book, events: &[u8]) -> String {
     let mut text = String::new();
@@ -32,6 +34,7 @@ fn run(book: &Book, events: &[u8]) -> String {
     for entry in 0..book.entries {
         job_line(&mut text, &String::from_utf8_lossy(book.identifier(entry)), &table.jobs[entry]);
     }
+    line(&mut text, format_args!("open {}", table.open_jobs));
     text
 }
 
@@ -78,14 +81,36 @@ pub(crate) mod tests {
             page(LISTING_BOOK, events.as_flattened()),
             "event 11 refused 20\n\
              ZZ0000000016 priced 405A000000000000 replica 1\n\
-             ZZ0000000024 not admitted\n"
+             ZZ0000000024 not admitted\n\
+             open 0\n"
         );
     }
 
     #[test]
     fn short_pages() {
-        assert_eq!(page(&[2, 0, 0, 0], &[]), "");
-        assert_eq!(page(&[2, 0, 0, 0], &[1]), "event 1 refused 10\n");
+        assert_eq!(page(&[2, 0, 0, 0], &[]), "open 0\n");
+        assert_eq!(page(&[2, 0, 0, 0], &[1]), "event 1 refused 10\nopen 0\n");
         assert_eq!(page(&[], &[1]), "book refused 1\n");
+    }
+
+    /// Both entries admitted, and the second one priced by the root.
+    #[test]
+    fn open_line() {
+        let events = [[1, 0, 0], [1, 1, 0], [4, 0, 1], [5, 0, 0], [3, 0, 0]];
+        for (length, open) in [0, 1, 2, 2, 2, 1].into_iter().enumerate() {
+            let text = page(LISTING_BOOK, events[..length].as_flattened());
+            assert!(text.ends_with(&format!("\nopen {open}\n")), "{text}");
+        }
+        assert_eq!(
+            page(LISTING_BOOK, events.as_flattened()),
+            "ZZ0000000016 open replica 1\n\
+             ZZ0000000024 priced 4050000000000000 replica 1\n\
+             open 1\n"
+        );
+    }
+
+    #[test]
+    fn longest() {
+        assert_eq!(super::LONGEST, 463_080);
     }
 }

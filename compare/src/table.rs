@@ -22,7 +22,8 @@ pub const MACHINES_AT: usize = JOBS_AT + ENTRIES * JOB_BYTES;
 pub const TOLD_AT: usize = MACHINES_AT + MACHINES * MACHINE_BYTES;
 pub const POOLS_AT: usize = TOLD_AT + MACHINES * MACHINES;
 pub const IN_FLIGHT_AT: usize = POOLS_AT + MACHINES * ENTRIES;
-pub const MESSAGES_AT: usize = IN_FLIGHT_AT + 1;
+pub const OPEN_JOBS_AT: usize = IN_FLIGHT_AT + 1;
+pub const MESSAGES_AT: usize = OPEN_JOBS_AT + 1;
 /// The length of a snapshot.
 pub const BYTES: usize = MESSAGES_AT + MESSAGES * MESSAGE_BYTES;
 
@@ -103,6 +104,8 @@ pub struct Table {
     pub pools: [[u8; ENTRIES]; MACHINES],
     /// "up to 128 messages in flight, in order of sending"
     pub in_flight: u8,
+    /// "The table keeps the number of open jobs." (document 02, 2.4)
+    pub open_jobs: u8,
     pub messages: [Message; MESSAGES],
 }
 
@@ -156,6 +159,7 @@ impl Table {
             told: [[0; MACHINES]; MACHINES],
             pools: [[0; ENTRIES]; MACHINES],
             in_flight: 0,
+            open_jobs: 0,
             messages: [Message::NONE; MESSAGES],
         }
     }
@@ -213,6 +217,21 @@ impl Table {
     pub fn add_to_pool(&mut self, machine: u8, job: u8, replica: u8) {
         let held = &mut self.pools[usize::from(machine)][usize::from(job)];
         *held = replica.max(*held);
+    }
+
+    /// The number of open jobs by "a full recount" (document 02, 2.4).
+    pub fn recount(&self) -> u8 {
+        self.jobs.iter().filter(|job| job.state == OPEN).count() as u8
+    }
+}
+
+/// How many jobs are still open, of a snapshot whose bytes may be anything: "the answer reads that number
+/// only" (document 02, 2.4). 255 for bytes of another length, which keep no number.
+pub fn open_jobs(snapshot: &[u8]) -> u8 {
+    if snapshot.len() == BYTES {
+        snapshot[OPEN_JOBS_AT]
+    } else {
+        255
     }
 }
 
@@ -320,6 +339,7 @@ impl Table {
             told: std::array::from_fn(|_| from.bytes()),
             pools: std::array::from_fn(|_| from.bytes()),
             in_flight: from.bytes::<1>()[0],
+            open_jobs: from.bytes::<1>()[0],
             messages: std::array::from_fn(|_| from.message()),
         })
     }
@@ -334,7 +354,7 @@ impl Table {
         self.machine.iter().for_each(|machine| to.machine(machine));
         to.bytes(self.told.as_flattened());
         to.bytes(self.pools.as_flattened());
-        to.bytes(&[self.in_flight]);
+        to.bytes(&[self.in_flight, self.open_jobs]);
         self.messages.iter().for_each(|message| to.message(message));
         out
     }
@@ -356,7 +376,7 @@ mod tests {
         }
         assert_eq!(Table::from_bytes(&bytes).unwrap().to_bytes(), bytes);
         assert!(Table::from_bytes(&bytes[1..]).is_none());
-        assert!(Table::from_bytes(&bytes[..BYTES - ENTRIES]).is_none());
+        assert!(Table::from_bytes(&bytes[..BYTES - 1 - ENTRIES]).is_none());
         bytes[TERMS_AT + 3] = 1;
         assert!(Table::from_bytes(&bytes).is_none());
     }
@@ -365,7 +385,7 @@ mod tests {
     #[test]
     fn places() {
         assert_eq!([JOBS_AT, MACHINES_AT, TOLD_AT, POOLS_AT], [1218, 2050, 2162, 2418]);
-        assert_eq!([IN_FLIGHT_AT, MESSAGES_AT, BYTES], [3442, 3443, 5235]);
+        assert_eq!([IN_FLIGHT_AT, OPEN_JOBS_AT, MESSAGES_AT, BYTES], [3442, 3443, 3444, 5236]);
     }
 
     #[test]
@@ -377,10 +397,28 @@ mod tests {
         table.told[0][0] = 103;
         table.pools[0][0] = 104;
         table.in_flight = 105;
-        table.messages[0].kind = 106;
+        table.open_jobs = 106;
+        table.messages[0].kind = 107;
         let bytes = table.to_bytes();
         assert_eq!(bytes[TERMS_AT..TERMS_AT + 4], [0, 98, 99, 0]);
         assert_eq!([bytes[JOBS_AT], bytes[MACHINES_AT], bytes[TOLD_AT]], [101, 102, 103]);
-        assert_eq!([bytes[POOLS_AT], bytes[IN_FLIGHT_AT], bytes[MESSAGES_AT]], [104, 105, 106]);
+        assert_eq!([bytes[POOLS_AT], bytes[IN_FLIGHT_AT]], [104, 105]);
+        assert_eq!([bytes[OPEN_JOBS_AT], bytes[MESSAGES_AT]], [106, 107]);
+    }
+
+    /// The byte that is kept, also of bytes that are no table; 255 for another length.
+    #[test]
+    fn question() {
+        let mut bytes = vec![7; BYTES];
+        assert!(Table::from_bytes(&bytes).is_none());
+        for kept in 0..=u8::MAX {
+            bytes[OPEN_JOBS_AT] = kept;
+            assert_eq!(open_jobs(&bytes), kept);
+        }
+        bytes.fill(7);
+        bytes.push(7);
+        for length in [0, 1, OPEN_JOBS_AT + 1, BYTES - 1, BYTES + 1] {
+            assert_eq!(open_jobs(&bytes[..length]), 255);
+        }
     }
 }

@@ -9,7 +9,8 @@
 //! 3. the length of a book (2 bytes), the book, and events for its page;
 //! 4. the length of a book (2 bytes), the book, and what is done to the table opened from it: events of 3
 //!    bytes, and changes of one byte (240, offset in 2 bytes, value);
-//! 5. the bytes of a table (shorter ones are filled with 0), then one event;
+//! 5. the bytes of a table (shorter ones are filled with 0), then one event; first, all of these as they are get
+//!    the question how many jobs are open;
 //! 6. a count (2 bytes; from 65,280 on, the largest counts there are), the lengths of an identifier and of terms
 //!    (a byte each), these two, and a buffer: the entry is added to the book that is its first bytes.
 
@@ -18,7 +19,7 @@ mod library;
 
 use library::{Library, PAGE_BUFFER};
 use second::book::{self, Book};
-use second::table::{Table, BYTES};
+use second::table::{self, Table, BYTES};
 use second::{check, events, isin, page, price};
 use std::cell::RefCell;
 use std::fmt::Debug;
@@ -64,6 +65,11 @@ fn same_table(what: &str, library: &[u8], second: &[u8]) {
     if let Some(at) = (0..BYTES).find(|&at| library[at] != second[at]) {
         same(&format!("{what}, byte {at}"), library[at], second[at]);
     }
+}
+
+/// How many jobs are open, of any bytes.
+fn same_open_jobs(library: &mut Library, bytes: &[u8]) {
+    same("open jobs", library.open_jobs(bytes), table::open_jobs(bytes));
 }
 
 fn one_term(library: &mut Library, input: &[u8]) {
@@ -134,6 +140,7 @@ fn one_table(library: &mut Library, input: &[u8]) {
     let (table, event) = input.split_at(input.len().min(BYTES));
     let mut bytes = table.to_vec();
     bytes.resize(BYTES, 0);
+    same_open_jobs(library, input);
     Kept { bytes, table: None }.step(library, event);
 }
 
@@ -176,5 +183,6 @@ impl Kept {
         };
         same("number of an event", library.step(&mut self.bytes, event), number);
         same_table("table after an event", &self.bytes, &second);
+        same_open_jobs(library, &self.bytes);
     }
 }

@@ -23,7 +23,7 @@ use Rattle.claims.proofs.Steps.{change-step}
 
 -- ---- parts of jobs
 
-opened-state : (r : ℕ) → opened r .state ≡ OPEN
+pub opened-state : (r : ℕ) → opened r .state ≡ OPEN
 unfolding opened
 opened-state r = refl
 
@@ -31,7 +31,7 @@ opened-replica : (r : ℕ) → opened r .replica ≡ r
 unfolding opened
 opened-replica r = refl
 
-priced-state : (v : Job) (p : ℕ) → priced v p .state ≡ PRICED
+pub priced-state : (v : Job) (p : ℕ) → priced v p .state ≡ PRICED
 unfolding priced
 priced-state v p = refl
 

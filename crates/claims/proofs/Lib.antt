@@ -7,5 +7,6 @@ pub mod Deaths
 pub mod Shown
 pub mod Further
 pub mod Start
+pub mod Open
 pub mod Demand3
 pub mod Only

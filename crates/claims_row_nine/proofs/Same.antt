@@ -18,7 +18,7 @@ use Rattle.validity_element.specs.Element.{bondOk, jobOk, machineOk, toldOk, ce
 use Rattle.validity_message.specs.Message.{emptyMessage, messageOk}
 use Rattle.validity.specs.Validity.{sizesOk, maxReplica, tableOk}
 use Rattle.protocol_preservation.proofs.Empty.{empty-message}
-use Rattle.protocol_preservation.proofs.Ok.{Ok, slot, tests, joined, ok}
+use Rattle.protocol_preservation.proofs.Ok.{Ok, slot, tests, joined, ok, counts}
 use Rattle.protocol_preservation.proofs.Facts.{Facts, MessageFacts, no-copy, no-thief, no-price, told-in}
 use Rattle.protocol_preservation.proofs.Accepted.{in-flight, slot-message}
 use Rattle.protocol_preservation.proofs.Passed.{facts, message-facts}
@@ -97,7 +97,7 @@ module _ (t : Table) (r : RowNine t) where
         slot = message;
         root = eq-eqb _ _ (r .root);
         told = told;
-      }
+      } (record { open-jobs = r .open-jobs })
 
 -- ---- and needed
 
@@ -193,4 +193,5 @@ module _ (t : Table) (s : Sized t) (e : tableOk t ≡ true) where
     root = f .root;
     told = λ m d h k n a. omega (arith, f .told-dead m d h k n);
     replicas = replicas;
+    open-jobs = counts t e .open-jobs;
   }

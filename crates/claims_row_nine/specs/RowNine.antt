@@ -1,6 +1,7 @@
 -- Row 9 of document 01, "Where each refusal is checked": "a count, number, state or term outside its range, an unused part not 0, a message to a dead
 -- machine, a REQ, ACK or RESULT not to the root, a root not alive, a living machine told of as dead, or a replica number in it above 1 + the deaths
--- the root was told of". One record for each condition, in this order, which says that the condition does not hold. Definitions only.
+-- the root was told of"; and of document 02, 2.4: "a table whose kept number differs from the recount". One record for each condition, in this order,
+-- which says that the condition does not hold. Definitions only.
 --
 -- The crate `validity` has the same check array by array, as the code goes; proofs/Same.antt shows that the two are one.
 use Prim.Native.Nat.{ℕ, _≤_, _<_}
@@ -10,7 +11,7 @@ use mathlib.Core.Bool.{true, false}
 use Rattle.pricer.specs.Range.{inRange}
 use Rattle.table.specs.declared.Table.{Table}
 use Rattle.table.specs.Views.{noJob, noMachine, noMessage, bondAt, jobAt, machineAt, poolAt, toldAt, messageAt}
-use Rattle.table.specs.Parts.{FISH, RESULT, NOT-ADMITTED, PRICED}
+use Rattle.table.specs.Parts.{FISH, RESULT, NOT-ADMITTED, PRICED, recount}
 use Rattle.validity_element.specs.Element.{emptyBond}
 use Rattle.validity_message.specs.Message.{withCopy, withThief, toRoot}
 use Rattle.validity.specs.Validity.{maxReplica}
@@ -97,6 +98,10 @@ pub record Replicas (t : Table) : Type 0 where
   pub running : (m : ℕ) → m < 16 → machineAt t m .«running_replica» ≤ maxReplica t
   pub messages : (i : ℕ) → i < t .«in_flight» → messageAt t i .replica ≤ maxReplica t
 
+-- document 02, 2.4: "a table whose kept number differs from the recount"
+abbrev pub OpenJobs : Table → Type 0
+OpenJobs t = t .«open_jobs» ≡ recount t
+
 -- none of the conditions of row 9 holds of t
 pub record RowNine (t : Table) : Type 0 where
   pub counts : Counts t
@@ -109,3 +114,4 @@ pub record RowNine (t : Table) : Type 0 where
   pub root : Root t
   pub told : Told t
   pub replicas : Replicas t
+  pub open-jobs : OpenJobs t

@@ -9,7 +9,7 @@ use Rattle.lists.proofs.Cases.{byBool}
 use Rattle.table.specs.declared.Table.{Table}
 use Rattle.table.proofs.Views.{Sized}
 use Rattle.validity.specs.Validity.{tableOk}
-use Rattle.protocol_preservation.proofs.Ok.{Valid, ok, passes}
+use Rattle.protocol_preservation.proofs.Ok.{Valid, ok, counts, passes}
 use Rattle.protocol_preservation.proofs.Accepted.{valid-admitted, valid-stolen, valid-delivered, valid-started, valid-finished}
 use Rattle.protocol_preservation.proofs.Died.{valid-died}
 use Rattle.protocol_preservation.proofs.Noticed.{valid-noticed}
@@ -17,10 +17,10 @@ use Rattle.dispatcher.specs.Step.{answerOf, stepOf, runOf}
 use Rattle.dispatcher.proofs.ByEvent.{Preserved, by-step, by-run}
 
 pub valid : (t : Table) → Sized t → tableOk t ≡ true → Valid t
-valid t s e = record { sized = s; ok = ok t s e }
+valid t s e = record { sized = s; ok = ok t s e; counts = counts t e }
 
 pub valid-passes : (t : Table) → Valid t → tableOk t ≡ true
-valid-passes t v = passes t (v .sized) (v .ok)
+valid-passes t v = passes t (v .sized) (v .ok) (v .counts)
 
 -- ---- one event
 

@@ -9,14 +9,16 @@ use lib.Dec.{ltb}
 use lib.ListN.{List·getD-eq-default}
 use Rattle.lists.proofs.Cases.{byBool}
 use Rattle.table.specs.declared.Table.{Table}
-use Rattle.table.specs.Views.{noMessage, messageAt}
+use Rattle.table.specs.Views.{noMessage, jobAt, messageAt}
+use Rattle.table.specs.Parts.{OPEN}
 use Rattle.table.proofs.Long.{Long, sized}
 use Rattle.table.proofs.Views.{Sized}
+use Rattle.table.proofs.Open.{recount-most, recount-some}
 use Rattle.validity_message.specs.Message.{emptyMessage}
 use Rattle.validity.specs.Validity.{tableOk}
 use Rattle.table.specs.Needs.{Within, Ready}
 use Rattle.protocol_preservation.proofs.Empty.{empty-message}
-use Rattle.protocol_preservation.proofs.Ok.{Ok, slot, tests, ok, used-most}
+use Rattle.protocol_preservation.proofs.Ok.{Ok, slot, tests, ok, counts, used-most}
 use Rattle.protocol_preservation.proofs.Passed.{facts, message-facts}
 use Rattle.protocol_preservation.proofs.Accepted.{in-flight}
 
@@ -61,3 +63,9 @@ module _ (t : Table) (s : Sized t) (e : tableOk t ≡ true) where
       byBool (ltb i (t .«in_flight»))
       (λ l. within t s (ok t s e) i (ltb-true _ _ l))
       (λ l. rw (empty-past i (ltb-false _ _ l)) (record { job = omega arith; from = omega arith; to = omega arith; thief = omega arith }))
+
+-- the number of open jobs, one of which may be job j, fits a byte with one more, and with one fewer where that job is open
+pub open-fits : (t : Table) → tableOk t ≡ true → (j : ℕ) → j < 64 → (t .«open_jobs» < 255) × (jobAt t j .state ≡ OPEN → 1 ≤ t .«open_jobs»)
+open-fits t e j h =
+    let c = counts t e .open-jobs in
+    (omega (arith, recount-most t), λ o. omega (arith, recount-some t j h o))

@@ -281,6 +281,7 @@ pub fn run(t: Table, s: &[u8], numbers: &mut [u8]) -> Table
                 u.jobs[job_at] = job_after;
                 u.machines[machine_at] = machine_after;
                 u.pools[cell_at] = change.cell;
+                u.open_jobs = table::open_after(u.open_jobs, job.state, job_after.state);
                 let keep = protocol_messages::kept(slot, used);
                 while slot < keep {
                     let m = u.messages[slot + 1];
@@ -316,4 +317,11 @@ pub fn step(t: Table, bytes: &[u8]) -> Answer
         number: number[0],
         table: u,
     }
+}
+
+// How many jobs are open: "the answer reads that number only", which the table keeps.
+pub fn open_jobs(t: Table) -> u8
+    ensures { λ r. ⌜ r ≡ t .«open_jobs» ⌝ }
+{
+    t.open_jobs
 }

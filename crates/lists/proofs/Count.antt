@@ -162,6 +162,28 @@ countTo-one p q (suc n) b l e f h =
     let r = countTo-one p q n b (omega arith) e f (λ i k. h i (omega arith)) in
     rw (h n (omega arith) d) (byBool (q n) (λ g. rw g (ap suc r)) (λ g. rw g r)))
 
+-- one index that p holds of
+pub countTo-some : (p : ℕ → Bool) (n b : ℕ) → b < n → p b ≡ true → 1 ≤ countTo p n
+unfolding countTo
+countTo-some p zero b l e = absurd (not-suc-le-zero l)
+countTo-some p (suc n) b l e =
+    byEq n b
+    (λ d. let f : p n ≡ true = rw d e in rw f (omega arith))
+    (λ d. let r = countTo-some p n b (omega arith) e in byBool (p n) (λ g. rw g (omega arith)) (λ g. rw g r))
+
+-- q is p but for one index
+pub countTo-change : (p q : ℕ → Bool) (n b : ℕ) → b < n → ((i : ℕ) → i < n → i ≢ b → p i ≡ q i)
+    → countTo q n + ind (p b) ≡ countTo p n + ind (q b)
+countTo-change p q n b l h =
+    let same : p b ≡ q b → countTo q n ≡ countTo p n = λ e. sym (countTo-same p q n (λ i k. byEq i b (λ d. rw d e) (h i k))) in
+    byBool (p b)
+    (λ e. byBool (q b)
+    (λ f. rw (e, f, same (e ∙ sym f)))
+    (λ f. rw (e, f) (omega (arith, countTo-one q p n b l f e (λ i k d. sym (h i k d))))))
+    (λ e. byBool (q b)
+    (λ f. rw (e, f) (omega (arith, countTo-one p q n b l e f h)))
+    (λ f. rw (e, f, same (e ∙ sym f))))
+
 -- ---- the least index that passes a test passes it
 
 pub least-at : (p : ℕ → Bool) (n : ℕ) → least p n < n → p (least p n) ≡ true

@@ -2,7 +2,7 @@
 use Prim.Native.Nat.{ℕ, _+_, _*_, _≤_, _<_}
 use mathlib.Core.Path.{_≡_, sym, _∙_}
 use mathlib.Core.Bool.{true}
-use mathlib.Core.List.{List, []}
+use mathlib.Core.List.{List, [], _++_}
 use native.Mathlib.Omega.{arith}
 use borrow.Author.Tests.{eqb-true}
 use lib.Dec.{eqb, ltb}
@@ -11,18 +11,19 @@ use Rattle.lists.proofs.Cases.{byBool}
 use Rattle.lists.proofs.Scans.{length-tabulate}
 use Rattle.text.specs.Text.{joined}
 use Rattle.text.proofs.Over.{joined-most}
-use Rattle.page_lines.specs.Lines.{entryLine}
-use Rattle.page_lines.proofs.Longest.{book-most, entry-most}
+use Rattle.page_lines.specs.Lines.{openJobsLine, entryLine}
+use Rattle.page_lines.proofs.Longest.{book-most, open-jobs-most, entry-most}
 use Rattle.book.specs.Book.{identifierAt, bookVerdict}
 use Rattle.book.specs.Parts.{entryCount, identifierOf}
 use Rattle.table.specs.declared.Table.{Table}
 use Rattle.table.specs.Views.{jobAt}
 use Rattle.table.proofs.Views.{Sized}
+use Rattle.table.proofs.Open.{recount-most}
 use Rattle.validity.specs.Validity.{tableOk}
-use Rattle.protocol_preservation.proofs.Ok.{ok}
+use Rattle.protocol_preservation.proofs.Ok.{ok, counts}
 use Rattle.protocol_preservation.proofs.Passed.{facts}
 use Rattle.table_opening.specs.Opening.{openOf}
-use Rattle.table_opening.proofs.Counts as counts
+use Rattle.table_opening.proofs.Counts as sizes
 use Rattle.dispatcher.specs.Step.{runOf, answersOf}
 use Rattle.dispatcher.proofs.Preserved.{run-ok, run-sized}
 use Rattle.dispatcher.specs.Events.{bytesMost, eventAt, eventCount, eventsIn}
@@ -56,9 +57,12 @@ module _ (book : List ℕ) (t : Table) (s : Sized t) (h : tableOk t ≡ true) wh
   pub lines-most : (n : ℕ) → n ≤ 64 → length (joined (lineOf book t) n) ≤ n * 48
   lines-most n l = joined-most (lineOf book t) 48 n (λ i k. line-most i (omega arith))
 
+  pub open-small : t .«open_jobs» < 100
+  open-small = omega (arith, counts t h .open-jobs, recount-most t)
+
   pub entries-most : length (entriesText book t) ≤ entriesMost
   unfolding entriesText
-  entries-most = omega (arith, lines-most (entryCount book) (counts.entry-count-most book), counts.entry-count-most book)
+  entries-most = omega (arith, lines-most (entryCount book) (sizes.entry-count-most book), sizes.entry-count-most book)
 
 -- ---- the events
 
@@ -74,11 +78,17 @@ pub run-most : (book : List ℕ) (t : Table) (s : List ℕ) → Sized t → tabl
 unfolding runText
 run-most book t s z h l =
     let es = eventsIn s in
+    let u = runOf t es in
+    let front = refusals 1 (answersOf t es) in
+    let us = run-sized t es z in
+    let ok = run-ok t es z h in
     omega (
       arith,
-      length-append (refusals 1 (answersOf t es)) (entriesText book (runOf t es)),
+      length-append (front ++ entriesText book u) (openJobsLine (u .«open_jobs»)),
+      length-append front (entriesText book u),
       listed-most t s l,
-      entries-most book (runOf t es) (run-sized t es z) (run-ok t es z h),
+      entries-most book u us ok,
+      open-jobs-most (u .«open_jobs») (open-small book u us ok),
     )
 
 pub page-most : (book events : List ℕ) → length (pageOf book events) ≤ longest

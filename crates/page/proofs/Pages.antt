@@ -11,8 +11,8 @@ use lib.ListN.{length, take}
 use lib.Seq.{take-all}
 use Rattle.lists.proofs.Cases.{byBool}
 use Rattle.text.specs.Text.{Written}
-use Rattle.text.proofs.Over.{then}
-use Rattle.page_lines.specs.Lines.{bookRefusedLine, entryLine}
+use Rattle.text.proofs.Over.{then-two}
+use Rattle.page_lines.specs.Lines.{bookRefusedLine, openJobsLine, entryLine}
 use Rattle.book.specs.Book.{bookVerdict}
 use Rattle.book.specs.Parts.{identifierOf}
 use Rattle.table.specs.declared.Table.{Table}
@@ -79,9 +79,9 @@ pub line-written : (book : List ℕ) (t : Table) (i : ℕ) (identifier : List �
     → Written e m (entryLine identifier (jobAt t i)) f r → Written e m (lineOf book t i) f r
 line-written book t i identifier q w = rw q at w
 
--- the lines of the entries after those of the refused events
-pub run-written : (book : List ℕ) (t : Table) (es : List (List ℕ)) {d : List ℕ} {e : List ℕ} {f : List ℕ} {r : Ran} {n : ℕ}
+-- the lines of the entries after those of the refused events, and then the last line
+pub run-written : (book : List ℕ) (t : Table) (es : List (List ℕ)) {d e f g : List ℕ} {r : Ran} {n m : ℕ}
     → Listed d 0 (refusals 1 (answersOf t es)) (runOf t es) e r → Written e (r .length) (entriesText book (r .table)) f n
-    → length (textFrom book t es) ≤ length d → Written d 0 (textFrom book t es) f n
+    → Written f n (openJobsLine (r .table .«open_jobs»)) g m → length (textFrom book t es) ≤ length d → Written d 0 (textFrom book t es) g m
 unfolding runText
-run-written book t es p q h = then (p .lines) (rw (p .table) at q) (omega arith)
+run-written book t es p q l h = then-two (p .lines) (rw (p .table) at q) (rw (p .table) at l) (omega arith)

@@ -6,7 +6,7 @@ use mathlib.Core.List.{List, _++_}
 use lib.Dec.{eqb, ltb}
 use lib.ListN.{length, take}
 use Rattle.text.specs.Text.{over, joined}
-use Rattle.page_lines.specs.Lines.{bookRefusedLine, entryLine}
+use Rattle.page_lines.specs.Lines.{bookRefusedLine, openJobsLine, entryLine}
 use Rattle.book.specs.Parts.{entryCount, identifierOf}
 use Rattle.table.specs.declared.Table.{Table}
 use Rattle.table.specs.Views.{jobAt}
@@ -26,9 +26,9 @@ unfoldable pub entriesText : List ℕ → Table → List ℕ
 entriesText book t = joined (λ i. entryLine (identifierOf book i) (jobAt t i)) (entryCount book)
 
 -- "Otherwise each refused event prints a line .. Then each entry prints a line": by the numbers that the events were answered, from place 1 on, and
--- by the table after them
+-- by the table after them. Document 02, 2.4: "After an accepted book the program prints "open" and this number as its last line"
 unfoldable pub runText : List ℕ → List ℕ → Table → List ℕ
-runText book numbers t = refusals 1 numbers ++ entriesText book t
+runText book numbers t = refusals 1 numbers ++ entriesText book t ++ openJobsLine (t .«open_jobs»)
 
 -- the text of the events run from the table t
 abbrev pub textFrom : List ℕ → Table → List (List ℕ) → List ℕ
@@ -44,9 +44,13 @@ pageOf book events =
 abbrev pub entriesMost : ℕ
 entriesMost = 64 * 48
 
+-- the last line, whose number has at most two digits
+abbrev pub openJobsMost : ℕ
+openJobsMost = 8
+
 -- no page is longer (proofs/Longest.antt)
 abbrev pub longest : ℕ
-longest = refusalsMost + entriesMost
+longest = refusalsMost + entriesMost + openJobsMost
 
 -- what the function page leaves: a buffer shorter than that is refused and unchanged; otherwise the page stands at its front, and the rest of it is
 -- unchanged

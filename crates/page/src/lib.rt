@@ -13,8 +13,8 @@ use table::Table;
 // Of a list of events no more bytes count.
 pub const BYTES_MOST: usize = 60000;
 
-// No page is longer: the lines of 20,000 refused events and of 64 entries.
-pub const LONGEST: usize = 20000 * 23 + 64 * 48;
+// No page is longer: the lines of 20,000 refused events and of 64 entries, and the last line.
+pub const LONGEST: usize = 20000 * 23 + 64 * 48 + 8;
 
 // Whether the buffer was long enough, and the length of the page, 0 where it was not.
 pub struct Printed {
@@ -48,7 +48,8 @@ fn put_run(book: &[u8], t: Table, events: &[u8], out: &mut [u8]) -> usize
     let ran = page_run::run(t, events, out);
     let u = ran.table;
     let at = ran.length;
-    put_entries(book, u, out, at)
+    let end = put_entries(book, u, out, at);
+    page_lines::put_open_jobs(out, end, dispatcher::open_jobs(u) as u64)
 }
 
 // The bytes that count.

@@ -9,7 +9,7 @@ use Rattle.text.specs.Text.{ascii, decimal, hex16}
 use Rattle.text.proofs.Digits.{two-digits, five-digits, length-hex}
 use Rattle.table.specs.declared.Job.{Job}
 use Rattle.table.specs.Parts.{NOT-ADMITTED, OPEN}
-use Rattle.page_lines.specs.Lines.{lineEnd, bookRefusedLine, eventRefusedLine, notAdmittedLine, openLine, pricedLine, entryLine}
+use Rattle.page_lines.specs.Lines.{lineEnd, bookRefusedLine, eventRefusedLine, notAdmittedLine, openLine, pricedLine, openJobsLine, entryLine}
 
 pub line-end-most : (w : List ℕ) (n : ℕ) → n < 100 → length (lineEnd w n) ≤ length w + 3
 unfolding lineEnd
@@ -18,6 +18,10 @@ line-end-most w n h = omega (arith, length-append (w ++ decimal n) (ascii "\n"),
 pub book-most : (n : ℕ) → n < 100 → length (bookRefusedLine n) ≤ 16
 unfolding bookRefusedLine
 book-most n h = line-end-most (ascii "book refused ") n h
+
+pub open-jobs-most : (n : ℕ) → n < 100 → length (openJobsLine n) ≤ 8
+unfolding openJobsLine
+open-jobs-most n h = line-end-most (ascii "open ") n h
 
 pub event-most : (place n : ℕ) → n < 100 → length (eventRefusedLine place n) ≤ 23
 unfolding eventRefusedLine

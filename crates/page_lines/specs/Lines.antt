@@ -31,6 +31,10 @@ openLine identifier replica = identifier ++ lineEnd (ascii " open replica ") rep
 unfoldable pub pricedLine : List ℕ → ℕ → ℕ → List ℕ
 pricedLine identifier price replica = identifier ++ ascii " priced " ++ hex16 price ++ lineEnd (ascii " replica ") replica
 
+-- document 02, 2.4: "the program prints "open" and this number as its last line"
+unfoldable pub openJobsLine : ℕ → List ℕ
+openJobsLine n = lineEnd (ascii "open ") n
+
 -- "Then each entry prints a line", by the state of its job
 unfoldable pub entryLine : List ℕ → Job → List ℕ
 entryLine identifier v =

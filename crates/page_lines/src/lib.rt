@@ -3,7 +3,8 @@
 ghost use Prim.Native.Nat.{_+_, _≤_, _<_};
 ghost use lib.ListN.{length};
 ghost use Rattle.text.specs.Text.{Written};
-ghost use Rattle.page_lines.specs.Lines.{lineEnd, bookRefusedLine, eventRefusedLine, notAdmittedLine, openLine, pricedLine, entryLine};
+ghost use Rattle.page_lines.specs.Lines.{lineEnd, bookRefusedLine, eventRefusedLine, notAdmittedLine, openLine, pricedLine, openJobsLine};
+ghost use Rattle.page_lines.specs.Lines.{entryLine};
 use table::Job;
 
 // The end of a line: words and a number of at most two digits.
@@ -35,6 +36,15 @@ pub fn put_event_refused(out: &mut [u8], at: usize, place: u64, n: u64) -> usize
     let a = text::put(out, at, b"event ");
     let b = text::put_decimal(out, a, place);
     put_line_end(out, b, b" refused ", n)
+}
+
+// The last line: how many jobs are open.
+pub fn put_open_jobs(out: &mut [u8], at: usize, n: u64) -> usize
+    requires { ⌜ at + 8 ≤ length (now out) ⌝ }
+    requires { ⌜ n < 100 ⌝ }
+    ensures { λ r. ⌜ Written (now (out .entry)) at (openJobsLine n) (now (out .exit)) r ⌝ }
+{
+    put_line_end(out, at, b"open ", n)
 }
 
 // The line of an entry that is not admitted.

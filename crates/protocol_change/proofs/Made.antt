@@ -6,19 +6,25 @@ use Rattle.table.specs.declared.Job.{Job}
 use Rattle.table.specs.declared.Machine.{Machine}
 use Rattle.table.specs.declared.Message.{Message}
 use Rattle.table.specs.declared.Table.{Table}
-use Rattle.table.specs.Views.{noJob, noMachine, jobAt, machineAt, poolAt, withJob, withMachine, withPool, parts}
+use Rattle.table.specs.States.{openAfter}
+use Rattle.table.specs.Views.{noJob, noMachine, jobAt, stateIn, machineAt, poolAt, withJob, withMachine, withPool, parts}
+use Rattle.table.proofs.Open.{openAfter-same}
 use Rattle.protocol_change.specs.Change.{partsAt, sendSome, made, silent}
 
 module _ (t : Table) (m j : ℕ) where
+  -- the job is as it was, and so is the number of open jobs
+  same-number : openAfter (t .«open_jobs») (stateIn (t .jobs) j) (stateIn (t .jobs) j) ≡ t .«open_jobs»
+  same-number = openAfter-same (t .«open_jobs») (stateIn (t .jobs) j)
+
   -- nothing changes
   pub made-silent : made t m j (silent (partsAt t m j)) ≡ t
   unfolding made silent partsAt sendSome parts
-  made-silent = rw (set-getD (t .jobs) j noJob, set-getD (t .machines) m noMachine, set-getD (t .pools) (m * 64 + j) 0)
+  made-silent = rw (set-getD (t .jobs) j noJob, same-number, set-getD (t .machines) m noMachine, set-getD (t .pools) (m * 64 + j) 0)
 
   -- a message alone
   pub made-sent : (x : Message) → made t m j (record { job = jobAt t j; machine = machineAt t m; cell = poolAt t m j; sent = x }) ≡ sendSome t x
   unfolding made parts
-  made-sent x = rw (set-getD (t .jobs) j noJob, set-getD (t .machines) m noMachine, set-getD (t .pools) (m * 64 + j) 0)
+  made-sent x = rw (set-getD (t .jobs) j noJob, same-number, set-getD (t .machines) m noMachine, set-getD (t .pools) (m * 64 + j) 0)
 
   -- the job
   pub made-job : (v : Job) (x : Message)
@@ -30,13 +36,13 @@ module _ (t : Table) (m j : ℕ) where
   pub made-machine : (n : Machine) (x : Message)
       → made t m j (record { job = jobAt t j; machine = n; cell = poolAt t m j; sent = x }) ≡ sendSome (withMachine t m n) x
   unfolding made parts
-  made-machine n x = rw (set-getD (t .jobs) j noJob, set-getD (t .pools) (m * 64 + j) 0)
+  made-machine n x = rw (set-getD (t .jobs) j noJob, same-number, set-getD (t .pools) (m * 64 + j) 0)
 
   -- the machine and the cell
   pub made-machine-cell : (n : Machine) (r : ℕ) (x : Message)
       → made t m j (record { job = jobAt t j; machine = n; cell = r; sent = x }) ≡ sendSome (withMachine (withPool t m j r) m n) x
   unfolding made parts
-  made-machine-cell n r x = rw (set-getD (t .jobs) j noJob)
+  made-machine-cell n r x = rw (set-getD (t .jobs) j noJob, same-number)
 
   -- the job and the cell
   pub made-job-cell : (v : Job) (r : ℕ) (x : Message)

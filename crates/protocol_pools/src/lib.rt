@@ -1,11 +1,11 @@
-// A machine's pool: a copy enters, the lowest job, the reserved copy returns, the pool is cleared; a job opened on the root.
+// A machine's pool: a copy enters, the lowest job, the reserved copy returns, the pool is cleared; an open job opened again on the root.
 // Each public function equals the definition of its name in the crate `table`; `open_on_root` equals its `enter` after `withJob`, and `lowest`, which
 // is lent the pools, the definition in specs/Lowest.antt.
 ghost use mathlib.Core.Path.{_≡_};
 ghost use Prim.Native.Nat.{_<_, max};
-ghost use Rattle.table.specs.Views.{machineAt, withJob};
+ghost use Rattle.table.specs.Views.{jobAt, machineAt, withJob};
 ghost use Rattle.table.specs.Pools.{enter, clearPool, returned};
-ghost use Rattle.table.specs.Parts.{opened};
+ghost use Rattle.table.specs.Parts.{opened, OPEN};
 ghost use Rattle.protocol_pools.specs.Lowest.{lowestIn};
 use table::Job;
 use table::Table;
@@ -33,9 +33,9 @@ fn enter(t: Table, m: usize, j: usize, r: u8) -> Table
     u
 }
 
-// Job j is open, with replica number r, on the root, and enters the root's pool.
+// Job j, which is open, is so with replica number r, on the root, and enters the root's pool. There are as many open jobs as before.
 pub fn open_on_root(t: Table, j: usize, r: u8) -> Table
-    requires { ⌜ j < 64 ⌝ }
+    requires { ⌜ (j < 64) × (jobAt t j .state ≡ OPEN) ⌝ }
     ensures { λ u. ⌜ u ≡ enter (withJob t j (opened r)) 0 j r ⌝ }
 {
     let mut u = t;

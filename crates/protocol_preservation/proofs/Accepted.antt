@@ -13,9 +13,10 @@ use Rattle.table.specs.declared.Table.{Table}
 use Rattle.table.specs.Views.{noMessage, bondAt, machineAt, poolAt, messageAt, flight, withJob, withMachine, withPool}
 use Rattle.table.specs.Pools.{enter}
 use Rattle.table.specs.Messages.{removeAt}
+use Rattle.table.specs.Needs.{RoomFor}
 use Rattle.table.specs.Parts.{opened, running, waiting, lives, message, result, FISH}
 use Rattle.table.proofs.Views.{Sized, views, sized-job, sized-machine, sized-pool, length-flight, room-machine}
-use Rattle.table.proofs.Messages.{message-flight, sized-removeAt}
+use Rattle.table.proofs.Messages.{message-flight, sized-send, sized-removeAt}
 use Rattle.validity_element.specs.Element.{copyOk}
 use Rattle.validity_message.specs.Message.{messageOk}
 use Rattle.validity.specs.Validity.{maxReplica}
@@ -28,8 +29,9 @@ use Rattle.event_start_done.proofs.Cases.{Starting, Finishing}
 use Rattle.protocol_preservation.proofs.Ok.{Ok, Valid, inFlightOk, machine-count-some, machine-count-most, entry-count-most}
 use Rattle.protocol_preservation.proofs.Facts.{copy-is, copy-job, maxReplica-pos, job-opened, running-copy, machine-running, machine-idle}
 use Rattle.protocol_preservation.proofs.Facts.{cell-copy}
-use Rattle.protocol_preservation.proofs.Updates.{wide, ok-job, ok-machine, ok-pool, ok-removeAt, valid-send}
+use Rattle.protocol_preservation.proofs.Updates.{wide, ok-job, ok-machine, ok-pool, ok-removeAt, ok-send}
 use Rattle.protocol_preservation.proofs.Sizes.{used-removeAt, sized-admitted, sized-delivered, sized-started}
+use Rattle.protocol_preservation.proofs.Counts.{counts-admitted, counts-stolen, counts-delivered, counts-started, counts-finished}
 use Rattle.protocol_preservation.proofs.Handled.{ok-enter, ok-waiting, ok-handle}
 
 -- ---- a message in flight, by its slot
@@ -73,6 +75,7 @@ module _ (t : Table) (v : Valid t) where
   valid-admitted a d = record {
     sized = sized-admitted t s a;
     ok = ok-opened t s o a 1 (copy-is (t .«entry_count») (maxReplica t) a 1 (d .entry) (omega arith) (maxReplica-pos t));
+    counts = counts-admitted t s (v .counts) a;
   }
 
   -- ---- Steal
@@ -83,8 +86,14 @@ module _ (t : Table) (v : Valid t) where
       let M = t .«machine_count» in
       let n = waiting (machineAt t a) (b + 1) in
       let uo = ok-waiting t s o a (b + 1) (omega (arith, d .machine, machine-count-most t (o .sizes))) (d .alive) (omega (arith, d .victim)) in
-      valid-send (withMachine t a n) (sized-machine t a n s) uo (message FISH a b 0 0 0) (room-machine t a n (unfold waiting in refl) b (d .room))
-      (simp wide (rw (lt-ltb a M (d .machine), lt-ltb b M (d .victim))))
+      let us = sized-machine t a n s in
+      let x = message FISH a b 0 0 0 in
+      let room = room-machine t a n (unfold waiting in refl) b (d .room) in
+      record {
+        sized = sized-send (withMachine t a n) us x room;
+        ok = ok-send (withMachine t a n) us uo x room (simp wide (rw (lt-ltb a M (d .machine), lt-ltb b M (d .victim))));
+        counts = counts-stolen t s (v .counts) a b;
+      }
 
   -- ---- Deliver
 
@@ -98,6 +107,7 @@ module _ (t : Table) (v : Valid t) where
         ok = ok-handle (removeAt t k) (messageAt t k) (sized-removeAt t s k h) (ok-removeAt t s o k h) (omega arith)
             (unfold removeAt in simp wide (slot-message t s o k h))
             (unfold removeAt in simp wide (slot-alive t s o k h));
+        counts = counts-delivered t s (v .counts) k;
       }
 
   -- ---- Start
@@ -118,6 +128,7 @@ module _ (t : Table) (v : Valid t) where
         ok = ok-machine (withPool t a b 0) (sized-pool t a b 0 s) (ok-pool t s o a b 0 a16 b64 refl) a (running n b q) a16
             (unfold running in simp views)
             (simp wide (machine-running M E B a n (o .machine a a16) (d .alive) b q c));
+        counts = counts-started t s (v .counts) a b;
       }
 
   -- ---- Done
@@ -135,5 +146,12 @@ module _ (t : Table) (v : Valid t) where
       let c = running-copy M E B a w (o .machine a a16) (d .alive) (d .runs) in
       let n = running w 0 0 in
       let uo : Ok (withMachine t a n) = ok-machine t s o a n a16 (unfold running in refl) (machine-idle M E B a w (o .machine a a16) (d .alive)) in
-      valid-send (withMachine t a n) (sized-machine t a n s) uo (result a j r (priceBits (bondAt t j))) (λ e. simp views (d .room))
-      (simp wide (rw (lt-ltb a M (d .machine), lt-ltb 0 M (omega (arith, machine-count-some t (o .sizes))), c)))
+      let us = sized-machine t a n s in
+      let x = result a j r (priceBits (bondAt t j)) in
+      let room : RoomFor (withMachine t a n) 0 = λ e. simp views (d .room) in
+      record {
+        sized = sized-send (withMachine t a n) us x room;
+        ok = ok-send (withMachine t a n) us uo x room
+            (simp wide (rw (lt-ltb a M (d .machine), lt-ltb 0 M (omega (arith, machine-count-some t (o .sizes))), c)));
+        counts = counts-finished t s (v .counts) a;
+      }

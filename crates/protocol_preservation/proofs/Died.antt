@@ -27,6 +27,7 @@ use Rattle.event_admit_deliver_die.proofs.Views.{machine-died-other, pool-died,
 use Rattle.event_admit_deliver_die.proofs.Cases.{Dying}
 use Rattle.protocol_preservation.proofs.Ok.{Ok, Valid, inFlightOk, machine-count-most}
 use Rattle.protocol_preservation.proofs.Sizes.{sized-died}
+use Rattle.protocol_preservation.proofs.Counts.{counts-died}
 
 -- who was told of a machine may still have been told of it when it is dead
 told-now-dead : (M al m d x : ℕ) → toldOk M al m d x ≡ true → toldOk M 0 m d x ≡ true
@@ -90,4 +91,5 @@ valid-died t v a d =
     record {
       sized = sized-died t (v .sized) a;
       ok = ok-died t (v .sized) o a (omega (arith, d .machine, machine-count-most t (o .sizes))) (d .other);
+      counts = counts-died t (v .sized) (v .counts) a;
     }

@@ -8,6 +8,7 @@ pub mod Told
 pub mod Passed
 pub mod Closed
 pub mod Sizes
+pub mod Counts
 pub mod Handled
 pub mod Accepted
 pub mod Died

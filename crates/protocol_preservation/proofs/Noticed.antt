@@ -28,6 +28,7 @@ use Rattle.protocol_preservation.proofs.Facts.{copy-job, copy-most, cop
 use Rattle.protocol_preservation.proofs.Updates.{wide, ok-keepMessages}
 use Rattle.protocol_preservation.proofs.Told.{ok-told, maxReplica-root}
 use Rattle.protocol_preservation.proofs.Sizes.{sized-informed, sized-returnReserved, sized-noticeLocal, sized-reissueOne, sized-noticed}
+use Rattle.protocol_preservation.proofs.Counts.{counts-noticed}
 use Rattle.protocol_preservation.proofs.Handled.{ok-waiting, ok-returned}
 use Rattle.protocol_preservation.proofs.Accepted.{ok-opened}
 
@@ -210,4 +211,5 @@ valid-noticed t v a b n =
           let n0 : toldAt t 0 b ≡ 0 = ap (λ (k : ℕ). toldAt t k b) (sym z) ∙ n .new in
           rw (e, noticed) (subst (λ (k : ℕ). Ok (reissue (noticeLocal t k b) b)) (sym z) (ok-root t s o b (n .named) d n0)))
           (λ e. rw (e, noticed) (ok-noticeLocal t s a b o (n .machine) (n .named) (n .alive) d));
+      counts = counts-noticed t s (v .counts) a b;
     }

@@ -1,4 +1,4 @@
--- The table passes check 9, as facts about its parts, each the test of one element.
+-- The table passes check 9, as facts about its parts: the tests of one element, and the counts over a whole array.
 -- Both ways: a table that passes has them, and one that has them passes.
 -- Assumes nothing.
 use Prim.Native.Nat.{ℕ, _+_, _-_, _≤_, _<_}
@@ -6,24 +6,26 @@ use mathlib.Core.Path.{_≡_, sym, ap, _∙_}
 use mathlib.Core.Bool.{Bool, true, _&&_}
 use mathlib.Core.List.{List, [], _∷_, _++_}
 use native.Mathlib.Omega.{arith}
-use borrow.Author.Tests.{leb-true, leb-false, le-leb, lt-leb}
+use borrow.Author.Tests.{eqb-true, eq-eqb, leb-true, leb-false, le-leb, lt-leb}
 use lib.Dec.{eqb, leb}
 use lib.ListN.{length, getD, take, drop, replicate, length-drop, take-append-drop}
 use lib.Seq.{getD-drop, getD-append-add, length-take-le}
 use Rattle.lists.specs.Scan.{padTo}
 use Rattle.lists.proofs.Scans.{all-at}
 use Rattle.lists.proofs.Keeps.{all-intro}
-use Rattle.lists.proofs.Cases.{byBool}
+use Rattle.lists.proofs.Cases.{byBool, and-left, and-right, and-both}
 use Rattle.lists.proofs.Count.{Every, every-at, every-index, same-all, getD-same}
 use Rattle.lists.proofs.Chains.{chain-apart, chain-joined}
 use Rattle.table.specs.declared.Table.{Table}
 use Rattle.table.specs.declared.Message.{Message}
 use Rattle.table.specs.Views.{noMessage, bondAt, jobAt, machineAt, poolAt, toldAt, messageAt, flight}
+use Rattle.table.specs.Parts.{recount}
 use Rattle.table.proofs.Views.{Sized, length-flight}
 use Rattle.table.proofs.Messages.{Padded, message-flight}
 use Rattle.validity_element.specs.Element.{bondOk, jobOk, machineOk, toldOk, cellOk}
 use Rattle.validity_message.specs.Message.{messageOk, emptyMessage, slotOk}
-use Rattle.validity.specs.Validity.{sizesOk, rootOk, maxReplica, bondsOk, jobsOk, machinesOk, toldRow, toldsOk, poolRow, poolsOk, messagesOk, tableOk}
+use Rattle.validity.specs.Validity.{sizesOk, rootOk, maxReplica, bondsOk, jobsOk, machinesOk, toldRow, toldsOk, poolRow, poolsOk, messagesOk}
+use Rattle.validity.specs.Validity.{elementsOk, countsOk, tableOk}
 use Rattle.protocol_preservation.proofs.Empty.{empty-message}
 
 -- a message in flight: its receiver is alive, and its parts are in their ranges
@@ -42,10 +44,15 @@ pub record Ok (t : Table) : Type 0 where
   pub root : rootOk t ≡ true
   pub told : (m d : ℕ) → m < 16 → d < 16 → toldOk (t .«machine_count») (machineAt t d .alive) m d (toldAt t m d) ≡ true
 
--- the arrays have their lengths, and the table passes. A count over a whole array, kept event by event, would stand here and not in Ok
+-- check 9 by its counts over a whole array, which are kept event by event
+pub record Counts (t : Table) : Type 0 where
+  pub open-jobs : t .«open_jobs» ≡ recount t
+
+-- the arrays have their lengths, and the table passes
 pub record Valid (t : Table) : Type 0 where
   pub sized : Sized t
   pub ok : Ok t
+  pub counts : Counts t
 
 -- ---- the slots against the list in flight and its padding
 
@@ -99,7 +106,7 @@ module _ (t : Table) (s : Sized t) (m : Every (λ x. inFlightOk t x ≡ true) (f
 
 -- ---- both ways
 
--- the tests of `tableOk`, element by element
+-- the tests of `elementsOk`, element by element
 pub record Tests (t : Table) : Type 0 where
   pub sizes : sizesOk t ≡ true
   pub bond : (j : ℕ) → j < 64 → bondOk (t .«entry_count») j (bondAt t j) ≡ true
@@ -116,9 +123,9 @@ later t = bondsOk t ∷ jobsOk t (maxReplica t) ∷ machinesOk t (maxReplica t) 
     ∷ toldsOk t ∷ []
 
 pub tests : (t : Table) → tableOk t ≡ true → Tests t
-unfolding tableOk bondsOk jobsOk machinesOk messagesOk toldsOk toldRow poolsOk poolRow
+unfolding tableOk elementsOk bondsOk jobsOk machinesOk messagesOk toldsOk toldRow poolsOk poolRow
 tests t e =
-    let p = chain-apart (sizesOk t) (later t) e in
+    let p = chain-apart (sizesOk t) (later t) (and-left (elementsOk t) (countsOk t) e) in
     record {
       sizes = p .0;
       bond = λ j h. all-at (λ j. bondOk (t .«entry_count») j (bondAt t j)) 64 j (p .1 .0) h;
@@ -132,9 +139,9 @@ tests t e =
           (all-at (toldRow t) 16 m (p .1 .1 .1 .1 .1 .1 .1 .0) h) k;
     }
 
-pub joined : (t : Table) → Tests t → tableOk t ≡ true
-unfolding tableOk bondsOk jobsOk machinesOk messagesOk toldsOk toldRow poolsOk poolRow
-joined t p =
+elements : (t : Table) → Tests t → elementsOk t ≡ true
+unfolding elementsOk bondsOk jobsOk machinesOk messagesOk toldsOk toldRow poolsOk poolRow
+elements t p =
     chain-joined (sizesOk t) (later t) (p .sizes) (
       all-intro (λ j. bondOk (t .«entry_count») j (bondAt t j)) 64 (p .bond),
       (
@@ -160,6 +167,14 @@ joined t p =
       ),
     )
 
+pub counts : (t : Table) → tableOk t ≡ true → Counts t
+unfolding tableOk countsOk
+counts t e = record { open-jobs = eqb-true _ _ (and-right (elementsOk t) (countsOk t) e) }
+
+pub joined : (t : Table) → Tests t → Counts t → tableOk t ≡ true
+unfolding tableOk countsOk
+joined t p c = and-both (elementsOk t) (countsOk t) (elements t p) (eq-eqb _ _ (c .open-jobs))
+
 module _ (t : Table) (s : Sized t) where
   pub ok : tableOk t ≡ true → Ok t
   ok e =
@@ -176,7 +191,7 @@ module _ (t : Table) (s : Sized t) where
         padded = from-empty t s (p .slot);
       }
 
-  pub passes : Ok t → tableOk t ≡ true
+  pub passes : Ok t → Counts t → tableOk t ≡ true
   passes o =
       joined t record {
         sizes = o .sizes;
@@ -189,21 +204,21 @@ module _ (t : Table) (s : Sized t) where
         slot = to-slots t s (o .messages) (o .padded);
       }
 
--- ---- the counts
+-- ---- the sizes
 
 module _ (t : Table) (e : sizesOk t ≡ true) where
-  counts : (leb 2 (t .«machine_count») ≡ true) × Every (λ b. b ≡ true) (leb (t .«machine_count») 16 ∷ leb (t .«entry_count») 64
+  sizes : (leb 2 (t .«machine_count») ≡ true) × Every (λ b. b ≡ true) (leb (t .«machine_count») 16 ∷ leb (t .«entry_count») 64
       ∷ leb (t .«in_flight») 128 ∷ [])
-  counts = chain-apart (leb 2 (t .«machine_count»)) (leb (t .«machine_count») 16 ∷ leb (t .«entry_count») 64 ∷ leb (t .«in_flight») 128 ∷ []) e
+  sizes = chain-apart (leb 2 (t .«machine_count»)) (leb (t .«machine_count») 16 ∷ leb (t .«entry_count») 64 ∷ leb (t .«in_flight») 128 ∷ []) e
 
   pub machine-count-some : 2 ≤ t .«machine_count»
-  machine-count-some = leb-true _ _ (counts .0)
+  machine-count-some = leb-true _ _ (sizes .0)
 
   pub machine-count-most : t .«machine_count» ≤ 16
-  machine-count-most = leb-true _ _ (counts .1 .0)
+  machine-count-most = leb-true _ _ (sizes .1 .0)
 
   pub entry-count-most : t .«entry_count» ≤ 64
-  entry-count-most = leb-true _ _ (counts .1 .1 .0)
+  entry-count-most = leb-true _ _ (sizes .1 .1 .0)
 
   pub used-most : t .«in_flight» ≤ 128
-  used-most = leb-true _ _ (counts .1 .1 .1 .0)
+  used-most = leb-true _ _ (sizes .1 .1 .1 .0)

@@ -20,12 +20,12 @@ use Rattle.table.specs.Messages.{push, removeAt, keepMessages, send}
 use Rattle.table.specs.Needs.{RoomFor}
 use Rattle.table.proofs.Views.{Sized, views, job-same, job-other, machine-same, machine-other, pool-same, pool-other-machine, pool-other-job}
 use Rattle.table.proofs.Views.{alive-machine, length-flight}
-use Rattle.table.proofs.Messages.{Padded, sized-send, flight-push, flight-removeAt, flight-keepMessages, padded-push, padded-removeAt}
+use Rattle.table.proofs.Messages.{Padded, flight-push, flight-removeAt, flight-keepMessages, padded-push, padded-removeAt}
 use Rattle.table.proofs.Messages.{padded-keepMessages}
 use Rattle.validity_element.specs.Element.{jobOk, machineOk, cellOk}
 use Rattle.validity_message.specs.Message.{messageOk}
 use Rattle.validity.specs.Validity.{sizesOk, maxReplica}
-use Rattle.protocol_preservation.proofs.Ok.{Ok, Valid, inFlightOk}
+use Rattle.protocol_preservation.proofs.Ok.{Ok, inFlightOk}
 
 -- ---- what an update leaves
 
@@ -167,6 +167,3 @@ module _ (t : Table) (s : Sized t) (o : Ok t) where
       byBool (eqb (machineAt t (x .to) .alive) 1)
       (λ e. rw (e, send) (ok-push x (l (eqb-true _ 1 e)) (rw e g)))
       (λ e. rw (e, send) o)
-
-  pub valid-send : (x : Message) → RoomFor t (x .to) → messageOk (t .«machine_count») (t .«entry_count») (maxReplica t) x ≡ true → Valid (send t x)
-  valid-send x l g = record { sized = sized-send t s x l; ok = ok-send x l g }

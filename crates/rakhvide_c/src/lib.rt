@@ -10,7 +10,7 @@ ghost use Rattle.book_term.specs.Term.{termOf, termNumber};
 ghost use Rattle.book.specs.Book.{bookVerdict};
 ghost use Rattle.book_writer.specs.Writer.{addNumber, addBytes};
 ghost use Rattle.page.specs.Page.{eventsOf, printedOf, bufferOf, Reported};
-ghost use Rattle.snapshot.specs.Snapshot.{checkOf, stepNumber, stepBytes, openNumber, openBytes};
+ghost use Rattle.snapshot.specs.Snapshot.{checkOf, stepNumber, stepBytes, openNumber, openBytes, openJobsOf};
 ghost use Rattle.rakhvide_c.specs.Terms.{termBits};
 use book_term::Reading;
 use pricer::FixedBond;
@@ -141,4 +141,12 @@ pub extern "C" fn rakhvide_step(table: &mut [u8], event: &[u8]) -> u8
     ensures { λ _. ⌜ now (table .exit) ≡ stepBytes (now (table .entry)) (now (event .entry)) ⌝ }
 {
     snapshot::step(table, event)
+}
+
+// How many jobs are open, as a snapshot keeps it: one byte is read. 255 for bytes of another length.
+#[no_mangle]
+pub extern "C" fn rakhvide_open_jobs(table: &[u8]) -> u8
+    ensures { λ r. ⌜ r ≡ openJobsOf (now (table .entry)) ⌝ }
+{
+    snapshot::open_jobs(table)
 }

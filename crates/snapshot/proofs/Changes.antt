@@ -19,7 +19,8 @@ use Rattle.dispatcher.proofs.Fixed.{Fixed, fixed-machine-count, fixed-step, ste
 use Rattle.dispatcher.proofs.Preserved.{step-sized, step-ok}
 use Rattle.dispatcher.proofs.Ready.{passed-sized, empty-past}
 use Rattle.snapshot_read.specs.Layout.{jobsStart, bondsFrom, jobsFrom, machinesFrom, toldFrom, poolsFrom, messagesFrom, decodable, decode}
-use Rattle.snapshot_write.specs.Bytes.{messageBytes, bondsBytes, messagesBytes, entriesBytes, machineStateBytes, flightBytes, encode}
+use Rattle.snapshot_write.specs.Bytes.{messageBytes, bondsBytes, messagesBytes, entriesBytes, machineStateBytes, numbersBytes, flightBytes}
+use Rattle.snapshot_write.specs.Bytes.{encode}
 use Rattle.snapshot_write.proofs.Lengths.{length-bonds, changesTo, length-changes}
 use Rattle.snapshot.proofs.Parts.{Small}
 use Rattle.snapshot.proofs.Same.{same-bytes}
@@ -65,8 +66,8 @@ unfolding encode entriesBytes flightBytes messagesBytes
 whole t n h =
     let f : ℕ → List ℕ = λ i. messageBytes (getD (t .messages) i noMessage) in
     let e : 128 ≡ n + (128 - n) = omega arith in
-    ap (λ (x : List ℕ). entriesBytes t ++ machineStateBytes t ++ ((t .«in_flight» ∷ []) ++ x)) (ap (joined f) e ∙ split f n (128 - n))
-    ∙ regroup (before t) _ (machineStateBytes t) (t .«in_flight» ∷ []) (joined f n) (rest t n)
+    ap (λ (x : List ℕ). entriesBytes t ++ machineStateBytes t ++ (numbersBytes t ++ x)) (ap (joined f) e ∙ split f n (128 - n))
+    ∙ regroup (before t) _ (machineStateBytes t) (numbersBytes t) (joined f n) (rest t n)
 
 before-length : (t : Table) → length (before t) ≡ jobsStart
 before-length t = simp length-append (omega (arith, length-bonds (t .bonds)))

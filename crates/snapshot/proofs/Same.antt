@@ -20,10 +20,10 @@ use Rattle.validity_element.specs.Element.{noTerms, bondOk}
 use Rattle.validity.specs.Validity.{tableOk}
 use Rattle.protocol_preservation.proofs.Ok.{tests}
 use Rattle.snapshot_read.specs.Layout.{bondSize, jobSize, machineSize, messageSize, bondsStart, jobsStart, machinesStart, toldStart, poolsStart}
-use Rattle.snapshot_read.specs.Layout.{usedStart, messagesStart, tableSize, bondStart, jobStart, machineStart, messageStart, bondFrom, jobFrom}
+use Rattle.snapshot_read.specs.Layout.{usedStart, openStart, messagesStart, tableSize, bondStart, jobStart, machineStart, messageStart, bondFrom, jobFrom}
 use Rattle.snapshot_read.specs.Layout.{machineFrom, messageFrom, bondsFrom, jobsFrom, machinesFrom, toldFrom, poolsFrom, messagesFrom, decode}
 use Rattle.snapshot_read.specs.Layout.{termsDecodable, decodable}
-use Rattle.snapshot_write.specs.Bytes.{entriesSize, machineStateSize, flightSize, bondBytes, jobBytes, machineBytes, messageBytes, bondsBytes}
+use Rattle.snapshot_write.specs.Bytes.{entriesSize, machineStateSize, numbersSize, flightSize, bondBytes, jobBytes, machineBytes, messageBytes, bondsBytes}
 use Rattle.snapshot_write.specs.Bytes.{jobsBytes}
 use Rattle.snapshot_write.specs.Bytes.{machinesBytes, messagesBytes, entriesBytes, machineStateBytes, flightBytes, encode}
 use Rattle.snapshot.proofs.Answers.{decodable-length}
@@ -82,8 +82,8 @@ module _ (s : List ℕ) (small : Small s) (l : length s ≡ tableSize) where
   counts-part : getD s 0 0 ∷ getD s 1 0 ∷ [] ≡ part s 0 bondsStart
   counts-part = ap (λ (r : List ℕ). getD s 0 0 ∷ r) (next s 0 1 0 (omega arith)) ∙ start s 0 1 (omega arith)
 
-  used-part : getD s usedStart 0 ∷ [] ≡ part s usedStart 1
-  used-part = start s usedStart 0 (omega arith)
+  numbers-part : getD s usedStart 0 ∷ getD s openStart 0 ∷ [] ≡ part s usedStart numbersSize
+  numbers-part = ap (λ (r : List ℕ). getD s usedStart 0 ∷ r) (next s usedStart 1 0 (omega arith)) ∙ start s usedStart 1 (omega arith)
 
   -- the terms, which pass check 9
   module _ (f : all (λ i. termsDecodable s (bondStart i)) 64 ≡ true) (ok : tableOk (decode s) ≡ true) where
@@ -114,7 +114,7 @@ module _ (s : List ℕ) (small : Small s) (l : length s ≡ tableSize) where
 
     flight-part : flightBytes (decode s) ≡ part s usedStart flightSize
     unfolding flightBytes decode
-    flight-part = both s usedStart 1 (128 * messageSize) used-part messages-part
+    flight-part = both s usedStart numbersSize (128 * messageSize) numbers-part messages-part
 
     whole-part : encode (decode s) ≡ s
     unfolding encode

@@ -4,12 +4,12 @@ use Prim.Native.Nat.{ℕ}
 use mathlib.Core.Bool.{cond}
 use mathlib.Core.List.{List}
 use lib.Dec.{eqb}
-use lib.ListN.{length}
+use lib.ListN.{length, getD}
 use Rattle.book.specs.Book.{bookVerdict}
 use Rattle.validity.specs.Validity.{tableOk}
 use Rattle.table_opening.specs.Opening.{freshOf}
 use Rattle.dispatcher.specs.Step.{stepOf}
-use Rattle.snapshot_read.specs.Layout.{tableSize, decodable, decode}
+use Rattle.snapshot_read.specs.Layout.{openStart, tableSize, decodable, decode}
 use Rattle.snapshot_write.specs.Bytes.{encode}
 
 -- "Table, before any event | 9"; bytes that are no table get 9 too
@@ -31,3 +31,8 @@ openNumber book s = cond (eqb (bookVerdict book) 0) (cond (eqb (length s) tableS
 -- "a refused book opens no table"
 unfoldable pub openBytes : List ℕ → List ℕ → List ℕ
 openBytes book s = cond (eqb (openNumber book s) 0) (encode (freshOf book)) s
+
+-- document 02, 2.4, "How many are still open": the number that the bytes keep, whatever else they hold; bytes of another length keep none, and 255 is no
+-- number of jobs
+unfoldable pub openJobsOf : List ℕ → ℕ
+openJobsOf s = cond (eqb (length s) tableSize) (getD s openStart 0) 255

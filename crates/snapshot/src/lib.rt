@@ -1,7 +1,8 @@
-// A snapshot, a table that is kept as bytes between calls: opened from a book, checked, and stepped by one event, each with document 01's number.
+// A snapshot, a table that is kept as bytes between calls: opened from a book, checked, and stepped by one event, each with document 01's number; and
+// asked how many jobs are open.
 ghost use mathlib.Core.Path.{_≡_};
 ghost use Prim.Native.Nat.{_≤_};
-ghost use Rattle.snapshot.specs.Snapshot.{checkOf, stepNumber, stepBytes, openNumber, openBytes};
+ghost use Rattle.snapshot.specs.Snapshot.{checkOf, stepNumber, stepBytes, openNumber, openBytes, openJobsOf};
 
 // 0 for the bytes of a table that passes check 9, else 9.
 pub fn check(table: &[u8]) -> u8
@@ -69,4 +70,14 @@ pub fn open(book: &[u8], table: &mut [u8]) -> u8
     let fresh = opened.table;
     snapshot_write::encode(fresh, table);
     0
+}
+
+// How many jobs are open: the number that the bytes keep is read, and nothing else of them. 255 where they have another length than a snapshot.
+pub fn open_jobs(table: &[u8]) -> u8
+    ensures { λ r. ⌜ r ≡ openJobsOf (now (table .entry)) ⌝ }
+{
+    if table.len() == snapshot_read::TABLE_SIZE {
+        return table[snapshot_read::OPEN_START];
+    }
+    255
 }

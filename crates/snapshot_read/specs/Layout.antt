@@ -1,4 +1,5 @@
--- A snapshot: the bytes in which a table is kept between calls, in the order of document 01, "The table", and the table that they stand for.
+-- A snapshot: the bytes in which a table is kept between calls, in the order of document 01, "The table", and the table that they stand for. What
+-- document 02 has the table keep stands before the messages, which may be written in part.
 -- Definitions only. Numbers of more than one byte are little-endian, as in the book. docs/LAYOUT.md has the sizes and places as numbers.
 use Prim.Native.Nat.{ℕ, _+_, _*_}
 use mathlib.Core.Bool.{Bool, false, cond, _&&_, _||_}
@@ -71,8 +72,12 @@ poolsStart = toldStart + 256
 abbrev pub usedStart : ℕ
 usedStart = poolsStart + 1024
 
+-- the number of open jobs
+abbrev pub openStart : ℕ
+openStart = usedStart + 1
+
 abbrev pub messagesStart : ℕ
-messagesStart = usedStart + 1
+messagesStart = openStart + 1
 
 -- how many bytes a snapshot has
 abbrev pub tableSize : ℕ
@@ -178,6 +183,7 @@ decode s = record {
   pools = poolsFrom s;
   «in_flight» = getD s usedStart 0;
   messages = messagesFrom s;
+  «open_jobs» = getD s openStart 0;
 }
 
 -- the case is zero-coupon with "all 64 bits clear" for a coupon, or fixed

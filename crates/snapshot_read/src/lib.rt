@@ -43,7 +43,9 @@ pub const POOLS_START: usize = TOLD_START + 256;
 
 pub const USED_START: usize = POOLS_START + 1024;
 
-pub const MESSAGES_START: usize = USED_START + 1;
+pub const OPEN_START: usize = USED_START + 1;
+
+pub const MESSAGES_START: usize = OPEN_START + 1;
 
 pub const TABLE_SIZE: usize = MESSAGES_START + 128 * MESSAGE_SIZE;
 
@@ -247,6 +249,7 @@ pub fn decode(s: &[u8]) -> Table
         pools,
         in_flight: s[USED_START],
         messages,
+        open_jobs: s[OPEN_START],
     }
 }
 

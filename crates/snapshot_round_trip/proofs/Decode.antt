@@ -15,7 +15,7 @@ use Rattle.snapshot_read.specs.Layout.{machineStart, messageStart, bondsFrom, j
 use Rattle.snapshot_read.specs.Layout.{decodable}
 use Rattle.snapshot_write.specs.Bytes.{bondBytes, jobBytes, machineBytes, messageBytes, bondsBytes, jobsBytes, machinesBytes, messagesBytes}
 use Rattle.snapshot_write.specs.Bytes.{entriesBytes}
-use Rattle.snapshot_write.specs.Bytes.{machineStateBytes, flightBytes, encode}
+use Rattle.snapshot_write.specs.Bytes.{machineStateBytes, numbersBytes, flightBytes, encode}
 use Rattle.snapshot_write.proofs.Lengths.{length-bond, length-job, length-machine, length-message, length-bonds, length-machines, length-entries}
 use Rattle.snapshot_write.proofs.Lengths.{length-machine-state, length-bytes}
 use Rattle.snapshot_round_trip.specs.RoundTrip.{Represents}
@@ -82,13 +82,13 @@ module _ (t : Table) where
       moved (behind (machinesBytes (t .machines) ++ t .told) (t .pools) machine-state-start)
       (omega (arith, length-append (machinesBytes (t .machines)) (t .told), length-machines (t .machines)))
 
-  used-start : Long t → Starts (encode t) usedStart (t .«in_flight» ∷ [])
+  numbers-start : Long t → Starts (encode t) usedStart (numbersBytes t)
   unfolding flightBytes
-  used-start l = front (t .«in_flight» ∷ []) (messagesBytes (t .messages)) (flight-start l)
+  numbers-start l = front (numbersBytes t) (messagesBytes (t .messages)) (flight-start l)
 
   messages-start : Long t → Starts (encode t) messagesStart (messagesBytes (t .messages))
   unfolding flightBytes
-  messages-start l = behind (t .«in_flight» ∷ []) (messagesBytes (t .messages)) (flight-start l)
+  messages-start l = behind (numbersBytes t) (messagesBytes (t .messages)) (flight-start l)
 
   -- ---- each array is read again
 
@@ -147,7 +147,8 @@ module _ (t : Table) where
       rw (
         first (t .«machine_count») _ counts-start,
         byte (t .«machine_count» ∷ t .«entry_count» ∷ []) counts-start 1 (omega arith),
-        first (t .«in_flight») [] (used-start l),
+        first (t .«in_flight») _ (numbers-start l),
+        byte (numbersBytes t) (numbers-start l) 1 (omega arith),
         bonds-again h,
         jobs-again l,
         machines-again l,

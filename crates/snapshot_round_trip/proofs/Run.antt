@@ -2,7 +2,7 @@
 -- bytes that stand for a table stand, after any list of events, for the table of the run from it.
 -- Assumes nothing.
 use Prim.Native.Nat.{ℕ}
-use mathlib.Core.Path.{_≡_, refl}
+use mathlib.Core.Path.{_≡_, refl, ap}
 use mathlib.Core.Bool.{true, false}
 use mathlib.Core.List.{List, [], _∷_}
 use borrow.Author.Tests.{eq-eqb, eqb-true, eqb-false}
@@ -17,10 +17,17 @@ use Rattle.dispatcher.specs.Step.{stepOf, runOf}
 use Rattle.dispatcher.proofs.Events.{step-refused}
 use Rattle.snapshot_read.specs.Layout.{tableSize, decodable, decode}
 use Rattle.snapshot_write.specs.Bytes.{encode}
-use Rattle.snapshot.specs.Snapshot.{stepNumber, stepBytes, openNumber, openBytes}
+use Rattle.snapshot.specs.Snapshot.{stepNumber, stepBytes, openNumber, openBytes, openJobsOf}
+use Rattle.snapshot.proofs.Answers.{decodable-length}
 use Rattle.snapshot_round_trip.specs.RoundTrip.{snapshotAfter, Represents, SameRun}
 use Rattle.snapshot_round_trip.proofs.Decode.{Encodable, decode-encode}
 use Rattle.snapshot_round_trip.proofs.Encodable.{encodable-from, encodable-fresh, encodable-step}
+
+-- ---- the question
+
+same-open : (s : List ℕ) (t : Table) → Represents s t → openJobsOf s ≡ t .«open_jobs»
+unfolding openJobsOf decode
+same-open s t h = rw (eq-eqb (length s) tableSize (decodable-length s (h .form))) (ap (λ (u : Table). u .«open_jobs») (h .table))
 
 -- ---- one event
 
@@ -54,6 +61,7 @@ same-run : (s : List ℕ) (t : Table) → Represents s t → Encodable t → Sam
 same-run s t h k = record {
   after = λ es. after-run es s t h k;
   number = λ es e. same-number (snapshotAfter s es) (runOf t es) (after-run es s t h k) e;
+  open-jobs = λ es. same-open (snapshotAfter s es) (runOf t es) (after-run es s t h k);
 }
 
 -- any bytes that can be decoded, also those of a table that fails check 9

@@ -8,7 +8,7 @@ use lib.ListN.{getD}
 use Rattle.table.specs.declared.Table.{Table}
 use Rattle.dispatcher.specs.Step.{stepOf, runOf}
 use Rattle.snapshot_read.specs.Layout.{decodable, decode}
-use Rattle.snapshot.specs.Snapshot.{stepNumber, stepBytes}
+use Rattle.snapshot.specs.Snapshot.{stepNumber, stepBytes, openJobsOf}
 
 -- the bytes after a list of events, each a step on the bytes that the one before it left
 unfoldable pub snapshotAfter : List ℕ → List (List ℕ) → List ℕ
@@ -24,7 +24,9 @@ pub record Represents (s : List ℕ) (t : Table) : Type 0 where
   pub form : decodable s ≡ true
   pub table : decode s ≡ t
 
--- the bytes s, after any list of events, stand for the table of the run from t, and the next event gets the number that it gets there
+-- the bytes s, after any list of events, stand for the table of the run from t, the next event gets the number that it gets there, and the question how
+-- many jobs are open is answered what that table keeps
 pub record SameRun (s : List ℕ) (t : Table) : Type 0 where
   pub after : (es : List (List ℕ)) → Represents (snapshotAfter s es) (runOf t es)
   pub number : (es : List (List ℕ)) (e : List ℕ) → stepNumber (snapshotAfter s es) e ≡ stepOf (runOf t es) e .number
+  pub open-jobs : (es : List (List ℕ)) → openJobsOf (snapshotAfter s es) ≡ runOf t es .«open_jobs»

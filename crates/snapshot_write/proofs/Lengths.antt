@@ -20,7 +20,7 @@ use Rattle.snapshot_write.specs.Bytes.{bondBytes}
 use Rattle.snapshot_write.specs.Bytes.{jobBytes}
 use Rattle.snapshot_write.specs.Bytes.{machineBytes, messageBytes, bondsBytes, jobsBytes, machinesBytes, messagesBytes, entriesBytes}
 use Rattle.snapshot_write.specs.Bytes.{machineStateBytes}
-use Rattle.snapshot_write.specs.Bytes.{flightBytes, encode}
+use Rattle.snapshot_write.specs.Bytes.{numbersBytes, numbersSize, flightBytes, encode}
 
 -- ---- numbers
 
@@ -99,11 +99,11 @@ pub length-machine-state : (t : Table) → Long t → length (machineStateBytes 
 unfolding machineStateBytes
 length-machine-state t l = simp length-append (omega (arith, length-machines (t .machines)))
 
--- how many messages are in flight, and the first n slots
+-- how many messages are in flight, how many jobs are open, and the first n slots
 abbrev pub flightTo : Table → ℕ → List ℕ
-flightTo t n = (t .«in_flight» ∷ []) ++ joined (λ i. messageBytes (getD (t .messages) i noMessage)) n
+flightTo t n = numbersBytes t ++ joined (λ i. messageBytes (getD (t .messages) i noMessage)) n
 
-pub length-flight-to : (t : Table) (n : ℕ) → length (flightTo t n) ≡ 1 + n * messageSize
+pub length-flight-to : (t : Table) (n : ℕ) → length (flightTo t n) ≡ numbersSize + n * messageSize
 length-flight-to t n = simp length-append (omega (arith, length-messages-to (t .messages) n))
 
 pub length-flight : (t : Table) → length (flightBytes t) ≡ flightSize
@@ -165,8 +165,8 @@ module _ {d : List ℕ} {at : ℕ} {e : List ℕ} {m : ℕ} {f : List ℕ} {r : 
   unfolding messageBytes
   written-message v p q h = then p q (omega (arith, length-message v))
 
-  pub written-flight : (t : Table) (n : ℕ) → Written d at (t .«in_flight» ∷ []) e m
-      → Written e m (joined (λ i. messageBytes (getD (t .messages) i noMessage)) n) f r → at + (1 + n * messageSize) ≤ length d
+  pub written-flight : (t : Table) (n : ℕ) → Written d at (numbersBytes t) e m
+      → Written e m (joined (λ i. messageBytes (getD (t .messages) i noMessage)) n) f r → at + (numbersSize + n * messageSize) ≤ length d
       → Written d at (flightTo t n) f r
   written-flight t n p q h = then p q (omega (arith, length-flight-to t n))
 
@@ -202,7 +202,7 @@ written-all t {d} p q s l h =
 abbrev pub changesTo : Table → ℕ → List ℕ
 changesTo t n = jobsBytes (t .jobs) ++ machineStateBytes t ++ flightTo t n
 
-pub length-changes : (t : Table) (n : ℕ) → Long t → length (changesTo t n) ≡ 64 * jobSize + machineStateSize + (1 + n * messageSize)
+pub length-changes : (t : Table) (n : ℕ) → Long t → length (changesTo t n) ≡ 64 * jobSize + machineStateSize + (numbersSize + n * messageSize)
 length-changes t n l = simp length-append (omega (arith, length-jobs (t .jobs), length-machine-state t l, length-messages-to (t .messages) n))
 
 pub written-changes : (t : Table) (n : ℕ) {d e : List ℕ} {m : ℕ} {f : List ℕ} {r : ℕ} {g : List ℕ} {k : ℕ} → Written d jobsStart (jobsBytes (t .jobs)) e m

@@ -91,13 +91,21 @@ machineStateBytes t = machinesBytes (t .machines) ++ t .told ++ t .pools
 abbrev pub machineStateSize : ℕ
 machineStateSize = 16 * machineSize + 256 + 1024
 
--- how many messages are in flight, and the messages
+-- how many messages are in flight, and how many jobs are open
+abbrev pub numbersBytes : Table → List ℕ
+numbersBytes t = t .«in_flight» ∷ t .«open_jobs» ∷ []
+
+-- how many bytes these are
+abbrev pub numbersSize : ℕ
+numbersSize = 2
+
+-- these numbers, and the messages
 unfoldable pub flightBytes : Table → List ℕ
-flightBytes t = (t .«in_flight» ∷ []) ++ messagesBytes (t .messages)
+flightBytes t = numbersBytes t ++ messagesBytes (t .messages)
 
 -- how many bytes these are
 abbrev pub flightSize : ℕ
-flightSize = 1 + 128 * messageSize
+flightSize = numbersSize + 128 * messageSize
 
 -- all of them
 unfoldable pub encode : Table → List ℕ

@@ -1,14 +1,14 @@
 // Writing a snapshot: its bytes into a lent buffer. Each function writes from a position on and answers the position after what it wrote.
 ghost use mathlib.Core.Path.{_≡_};
 ghost use Prim.Native.Nat.{_+_, _*_, _≤_};
-ghost use mathlib.Core.List.{[], _∷_, _++_};
+ghost use mathlib.Core.List.{_++_};
 ghost use lib.ListN.{length, getD};
 ghost use Rattle.text.specs.Text.{over, joined, Written};
 ghost use Rattle.table.specs.Views.{noMessage};
 ghost use Rattle.snapshot_read.specs.Layout.{bondSize, jobSize, machineSize, messageSize, jobsStart, tableSize};
 ghost use Rattle.snapshot_write.specs.Bytes.{entriesSize, machineStateSize, bytes16, bytes32, bytes64, caseOf, couponBits};
 ghost use Rattle.snapshot_write.specs.Bytes.{yieldBits, bondBytes, jobBytes, machineBytes, messageBytes, bondsBytes, jobsBytes, machinesBytes};
-ghost use Rattle.snapshot_write.specs.Bytes.{entriesBytes, machineStateBytes, encode};
+ghost use Rattle.snapshot_write.specs.Bytes.{entriesBytes, machineStateBytes, numbersBytes, numbersSize, encode};
 use pricer::Bond;
 use pricer::Terms;
 use table::Job;
@@ -216,15 +216,15 @@ fn put_machine_state(out: &mut [u8], at: usize, t: Table) -> usize
     put_pools(out, b, pools)
 }
 
-// How many messages are in flight, and the first n slots.
+// How many messages are in flight, how many jobs are open, and the first n slots.
 fn put_flight(out: &mut [u8], at: usize, t: Table, n: usize) -> usize
-    requires { ⌜ (n ≤ 128) × (at + (1 + n * messageSize) ≤ length (now out)) ⌝ }
-    ensures { λ r. ⌜ Written (now (out .entry)) at ((t .«in_flight» ∷ []) ++ joined (λ i. messageBytes (getD (t .messages) i noMessage)) n)
+    requires { ⌜ (n ≤ 128) × (at + (numbersSize + n * messageSize) ≤ length (now out)) ⌝ }
+    ensures { λ r. ⌜ Written (now (out .entry)) at (numbersBytes t ++ joined (λ i. messageBytes (getD (t .messages) i noMessage)) n)
         (now (out .exit)) r ⌝ }
 {
     let messages = t.messages;
-    let used = [t.in_flight];
-    let a = text::put(out, at, &used);
+    let numbers = [t.in_flight, t.open_jobs];
+    let a = text::put(out, at, &numbers);
     put_messages(out, a, messages, n)
 }
 
@@ -242,7 +242,7 @@ pub fn encode(t: Table, out: &mut [u8])
 pub fn put_changes(t: Table, n: usize, out: &mut [u8])
     requires { ⌜ (n ≤ 128) × (length (now out) ≡ tableSize) ⌝ }
     ensures { λ _. ⌜ now (out .exit) ≡ over (now (out .entry)) jobsStart
-        (jobsBytes (t .jobs) ++ machineStateBytes t ++ ((t .«in_flight» ∷ []) ++ joined (λ i. messageBytes (getD (t .messages) i noMessage)) n)) ⌝ }
+        (jobsBytes (t .jobs) ++ machineStateBytes t ++ (numbersBytes t ++ joined (λ i. messageBytes (getD (t .messages) i noMessage)) n)) ⌝ }
 {
     let jobs = t.jobs;
     let a = put_jobs(out, snapshot_read::JOBS_START, jobs);

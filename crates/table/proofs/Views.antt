@@ -305,6 +305,22 @@ pub slots-told : (t : Table) (m d r : ℕ) → withTold t m d r .messages ≡ t 
 unfolding withTold
 slots-told t m d r = refl
 
+pub open-machine : (t : Table) (m : ℕ) (v : Machine) → withMachine t m v .«open_jobs» ≡ t .«open_jobs»
+unfolding withMachine
+open-machine t m v = refl
+
+pub open-pool : (t : Table) (m j r : ℕ) → withPool t m j r .«open_jobs» ≡ t .«open_jobs»
+unfolding withPool
+open-pool t m j r = refl
+
+pub open-told : (t : Table) (m d r : ℕ) → withTold t m d r .«open_jobs» ≡ t .«open_jobs»
+unfolding withTold
+open-told t m d r = refl
+
+pub open-messages : (t : Table) (n : ℕ) (l : List Message) → withMessages t n l .«open_jobs» ≡ t .«open_jobs»
+unfolding withMessages
+open-messages t n l = refl
+
 pub ruleset views = (
   bond-job,
   bond-machine,
@@ -358,6 +374,10 @@ pub ruleset views = (
   slots-machine,
   slots-pool,
   slots-told,
+  open-machine,
+  open-pool,
+  open-told,
+  open-messages,
 )
 
 -- a part of the machines' records that machine m's new record has too; also where there is no machine m, since then nothing is written

@@ -3,12 +3,13 @@
 use mathlib.Core.Bool.{Bool, not, cond, _&&_}
 use Prim.Native.Nat.{ℕ}
 use lib.Dec.{eqb}
+use Rattle.lists.specs.Scan.{countTo}
 use Rattle.table.specs.declared.Job.{Job}
 use Rattle.table.specs.declared.Machine.{Machine}
 use Rattle.table.specs.declared.Message.{Message}
 use Rattle.table.specs.declared.Table.{Table}
 use Rattle.table.specs.declared.Answer.{Answer}
-use Rattle.table.specs.Views.{machineAt, refuse}
+use Rattle.table.specs.Views.{jobAt, machineAt, refuse}
 pub use Rattle.table.specs.States.{NOT-ADMITTED, OPEN, PRICED}
 
 -- ---- a job
@@ -28,6 +29,10 @@ placed v p = record { state = v .state; replica = v .replica; moving = 0; holder
 -- priced; "a priced job keeps the replica number and place it had when priced"
 unfoldable pub priced : Job → ℕ → Job
 priced v bits = record { state = PRICED; replica = v .replica; moving = v .moving; holder = v .holder; thief = v .thief; price = bits }
+
+-- document 02, 2.4, "a full recount": how many jobs are open
+unfoldable pub recount : Table → ℕ
+recount t = countTo (λ j. eqb (jobAt t j .state) OPEN) 64
 
 -- ---- a machine
 

@@ -24,6 +24,10 @@
 --                                                                    7 ACK, 8 NOWORK, 9 RESULT
 --   what a message carries                                           messages[i].from, .to, .job, .replica, .thief, .price;
 --                                                                    0 where its kind has no use for it
+--
+-- and what document 02 lists:
+--
+--   2.4, "The table keeps the number of open jobs."                  open_jobs
 use mathlib.Core.List.{List}
 use Prim.Native.Nat.{ℕ, _+_, _*_}
 use lib.ListN.{getD, set, take}
@@ -35,6 +39,7 @@ use Rattle.table.specs.declared.Machine.{Machine}
 use Rattle.table.specs.declared.Message.{Message}
 use Rattle.table.specs.declared.Table.{Table}
 use Rattle.table.specs.declared.Answer.{Answer}
+use Rattle.table.specs.States.{openAfter}
 
 -- "What a state, slot or message kind has no use for is 0": a job not admitted, a machine past the count, an unused slot
 abbrev pub noJob : Job
@@ -61,6 +66,10 @@ bondAt t j = getD (t .bonds) j pastBond
 unfoldable pub jobAt : Table → ℕ → Job
 jobAt t j = getD (t .jobs) j noJob
 
+-- the state of job j in a list of jobs; past its end, not admitted
+abbrev pub stateIn : List Job → ℕ → ℕ
+stateIn l j = getD l j noJob .state
+
 -- "for each machine: alive or dead, .. at most one reserved copy (job, replica, thief), at most one running copy, and the victim it waits on, if any"
 unfoldable pub machineAt : Table → ℕ → Machine
 machineAt t m = getD (t .machines) m noMachine
@@ -81,7 +90,8 @@ messageAt t i = getD (t .messages) i noMessage
 unfoldable pub flight : Table → List Message
 flight t = take (t .«in_flight») (t .messages)
 
--- ---- the updates: t with another job j, machine m, cell of a pool, told flag, or messages, and all else as it was
+-- ---- the updates: t with another job j, machine m, cell of a pool, told flag, or messages, and all else as it was; but with another job goes the
+-- number of open jobs, by its state before and after
 
 unfoldable pub withJob : Table → ℕ → Job → Table
 withJob t j v =
@@ -95,6 +105,7 @@ withJob t j v =
       pools = t .pools;
       «in_flight» = t .«in_flight»;
       messages = t .messages;
+      «open_jobs» = openAfter (t .«open_jobs») (stateIn (t .jobs) j) (stateIn (set (t .jobs) j v) j);
     }
 
 unfoldable pub withMachine : Table → ℕ → Machine → Table
@@ -109,6 +120,7 @@ withMachine t m v =
       pools = t .pools;
       «in_flight» = t .«in_flight»;
       messages = t .messages;
+      «open_jobs» = t .«open_jobs»;
     }
 
 unfoldable pub withPool : Table → ℕ → ℕ → ℕ → Table
@@ -123,6 +135,7 @@ withPool t m j r =
       pools = set (t .pools) (m * 64 + j) r;
       «in_flight» = t .«in_flight»;
       messages = t .messages;
+      «open_jobs» = t .«open_jobs»;
     }
 
 unfoldable pub withTold : Table → ℕ → ℕ → ℕ → Table
@@ -137,6 +150,7 @@ withTold t m d r =
       pools = t .pools;
       «in_flight» = t .«in_flight»;
       messages = t .messages;
+      «open_jobs» = t .«open_jobs»;
     }
 
 unfoldable pub withMessages : Table → ℕ → List Message → Table
@@ -151,6 +165,7 @@ withMessages t n l =
       pools = t .pools;
       «in_flight» = n;
       messages = l;
+      «open_jobs» = t .«open_jobs»;
     }
 
 -- all of these at once, for a proof of code: `unfolding parts`

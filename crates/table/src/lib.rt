@@ -3,6 +3,8 @@
 // table, the table.
 // What each field holds is listed at the head of specs/Views.antt. What is unused is 0 throughout.
 ghost use mathlib.Core.Path.{_≡_};
+ghost use Prim.Native.Nat.{_≤_, _<_};
+ghost use Rattle.table.specs.States.{OPEN, opens, openAfter};
 ghost use Rattle.table.specs.Views.{refuse};
 use pricer::Bond;
 
@@ -45,6 +47,7 @@ pub struct Table {
     pub pools: [u8; 1024],
     pub in_flight: u8,
     pub messages: [Message; 128],
+    pub open_jobs: u8,
 }
 
 // A number, 0 or that of the refusal, beside the table.
@@ -69,6 +72,24 @@ pub const NOT_ADMITTED: u8 = 0;
 pub const OPEN: u8 = 1;
 
 pub const PRICED: u8 = 2;
+
+// What a job in this state adds to the number of open jobs.
+fn opens(state: u8) -> u8
+    ensures { λ r. ⌜ r ≡ opens state ⌝ }
+{
+    if state == OPEN {
+        return 1;
+    }
+    0
+}
+
+// "The table keeps the number of open jobs": it was n, and one job's state was `was` and is `is`.
+pub fn open_after(n: u8, was: u8, is: u8) -> u8
+    requires { ⌜ (n < 255) × (was ≡ OPEN → 1 ≤ n) ⌝ }
+    ensures { λ r. ⌜ r ≡ openAfter n was is ⌝ }
+{
+    n + opens(is) - opens(was)
+}
 
 // The kinds of a message, named as in document 01.
 pub const FISH: u8 = 1;

@@ -46,6 +46,10 @@ module _ (s : List ℕ) where
   unfolding freshOf blank
   used-fresh = refl
 
+  pub open-fresh : freshOf s .«open_jobs» ≡ 0
+  unfolding freshOf blank
+  open-fresh = refl
+
   pub bond-fresh : (j : ℕ) → j < 64 → bondAt (freshOf s) j ≡ bondOf s j
   unfolding freshOf blank bondsOf bondAt
   bond-fresh j h =

@@ -27,6 +27,7 @@ blank m n bs ns =
       pools = replicate 1024 0;
       «in_flight» = 0;
       messages = replicate 128 noMessage;
+      «open_jobs» = 0;
     }
 
 -- a machine with no copy and no wait, alive (1) or not (0)

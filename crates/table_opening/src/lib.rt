@@ -79,6 +79,7 @@ fn blank(machine_count: u8, entries: u8, bonds: [Bond; 64], machines: [Machine; 
         pools: [0; 1024],
         in_flight: 0,
         messages: [message; 128],
+        open_jobs: 0,
     }
 }
 

@@ -140,6 +140,7 @@ pub fn sound() -> Table {
         pools,
         in_flight: 3,
         messages: messages(),
+        open_jobs: 1,
     }
 }
 
@@ -293,6 +294,13 @@ fn with_message(t: Table, field: u8, i: usize, value: u8) -> Table {
     u
 }
 
+// Field 31.
+fn with_open_jobs(t: Table, value: u8) -> Table {
+    let mut u = t;
+    u.open_jobs = value;
+    u
+}
+
 // One field changed: its number, the place in its array, and the new value. A field of number 0 changes nothing.
 pub fn changed(t: Table, field: u8, place: usize, value: u8) -> Table {
     match field {
@@ -303,6 +311,7 @@ pub fn changed(t: Table, field: u8, place: usize, value: u8) -> Table {
         21..=22 => with_cell(t, field, place, value),
         23..=29 => with_message(t, field, place, value),
         30 => with_bond(t, field, place, value),
+        31 => with_open_jobs(t, value),
         _ => t,
     }
 }

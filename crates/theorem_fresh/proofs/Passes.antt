@@ -6,23 +6,25 @@ use mathlib.Core.Bool.{true, false}
 use mathlib.Core.List.{List}
 use native.Mathlib.Omega.{arith}
 use borrow.Author.Tests.{ltb-true, ltb-false, le-leb}
-use lib.Dec.{ltb}
+use lib.Dec.{eqb, ltb}
 use lib.Ieee.{toBits}
 use Rattle.lists.proofs.Cases.{byBool}
+use Rattle.lists.proofs.Count.{countTo-zero}
 use Rattle.pricer.specs.Range.{inRange}
 use Rattle.book.specs.Book.{bookVerdict}
 use Rattle.pricer.specs.Bonds.{noBond}
 use Rattle.book.specs.Parts.{machineCount, entryCount, termBondAt, bondOf}
 use Rattle.book.proofs.Accepted.{accepted, accepted-size, entry, bond-below, bond-past}
-use Rattle.table.specs.Views.{machineAt}
+use Rattle.table.specs.Views.{jobAt, machineAt}
+use Rattle.table.specs.Parts.{recount, OPEN}
 use Rattle.table.proofs.Views.{Sized}
 use Rattle.validity_element.specs.Element.{emptyBond, bondOk, machineOk}
-use Rattle.validity.specs.Validity.{maxReplica, tableOk}
-use Rattle.protocol_preservation.proofs.Ok.{Ok, Valid, passes}
+use Rattle.validity.specs.Validity.{maxReplica, elementsOk, tableOk}
+use Rattle.protocol_preservation.proofs.Ok.{Ok, Counts, Valid, passes}
 use Rattle.table_opening.specs.Opening.{blank, freshOf, noTable, openOf}
 use Rattle.table_opening.proofs.Counts.{machine-count-most, entry-count-most}
 use Rattle.table_opening.proofs.Shown.{sized-fresh, machine-count-fresh, entry-count-fresh, used-fresh, bond-fresh, job-fresh, machine-fresh}
-use Rattle.table_opening.proofs.Shown.{machine-past, told-fresh, pool-fresh, flight-fresh, padded-fresh, opened-table}
+use Rattle.table_opening.proofs.Shown.{open-fresh, machine-past, told-fresh, pool-fresh, flight-fresh, padded-fresh, opened-table}
 
 no-bond-empty : emptyBond noBond ≡ true
 unfolding toBits
@@ -73,11 +75,18 @@ module _ (s : List ℕ) (e : bookVerdict s ≡ 0) where
         told = λ m d h k. simp (told-fresh s);
       }
 
+  -- no job is open
+  fresh-counts : Counts (freshOf s)
+  unfolding recount
+  fresh-counts = record {
+    open-jobs = open-fresh s ∙ sym (countTo-zero (λ j. eqb (jobAt (freshOf s) j .state) OPEN) 64 (λ j h. simp (job-fresh s)));
+  }
+
   pub fresh-valid : Valid (freshOf s)
-  fresh-valid = record { sized = sized-fresh s; ok = fresh-ok }
+  fresh-valid = record { sized = sized-fresh s; ok = fresh-ok; counts = fresh-counts }
 
   pub fresh-passes : tableOk (freshOf s) ≡ true
-  fresh-passes = passes (freshOf s) (sized-fresh s) fresh-ok
+  fresh-passes = passes (freshOf s) (sized-fresh s) fresh-ok fresh-counts
 
   -- of the table as it is opened
   pub opened-passes : tableOk (openOf s .table) ≡ true
@@ -88,5 +97,5 @@ module _ (s : List ℕ) (e : bookVerdict s ≡ 0) where
 
 -- its machine count is outside its range
 pub no-table-fails : tableOk noTable ≡ false
-unfolding tableOk noTable blank
+unfolding tableOk elementsOk noTable blank
 no-table-fails = refl

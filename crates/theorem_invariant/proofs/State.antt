@@ -19,7 +19,7 @@ use Rattle.table.specs.Views.{bondAt, jobAt, machineAt, poolAt, toldAt, flight}
 use Rattle.table.specs.Parts.{copyIs, reserves, REQ, AUTH, OBSOLETE, SCHEDULE, ACK, RESULT, OPEN, PRICED}
 use Rattle.table.proofs.Views.{Sized}
 use Rattle.lists.proofs.Count.{ind, count, Every}
-use Rattle.protocol_preservation.proofs.Ok.{Ok, Valid}
+use Rattle.protocol_preservation.proofs.Ok.{Ok, Counts, Valid}
 use Rattle.protocol_preservation.proofs.Facts.{Facts, MessageFacts}
 use Rattle.protocol_preservation.proofs.Passed.{facts}
 
@@ -157,6 +157,7 @@ pub record Invariant (t : Table) : Type 0 where
   pub sized : Sized t
   -- W: the table passes check 9, and what that says in plain numbers
   pub ok : Ok t
+  pub counts : Counts t
   pub facts : Facts t
   pub reservation : ReservationMatched t (flight t)
   pub transfer : Transfer t (flight t)
@@ -167,11 +168,20 @@ pub record Invariant (t : Table) : Type 0 where
 pub invariant : (t : Table) → Valid t → ReservationMatched t (flight t) → Transfer t (flight t) → Untold t (flight t) → Prices t (flight t)
     → Invariant t
 invariant t v c r d p =
-    record { sized = v .sized; ok = v .ok; facts = facts t (v .sized) (v .ok); reservation = c; transfer = r; untold = d; prices = p }
+    record {
+      sized = v .sized;
+      ok = v .ok;
+      counts = v .counts;
+      facts = facts t (v .sized) (v .ok);
+      reservation = c;
+      transfer = r;
+      untold = d;
+      prices = p;
+    }
 
 module _ (t : Table) (w : Invariant t) where
   pub valid : Valid t
-  valid = record { sized = w .sized; ok = w .ok }
+  valid = record { sized = w .sized; ok = w .ok; counts = w .counts }
 
   pub machine-16 : (a : ℕ) → a < t .«machine_count» → a < 16
   machine-16 a l = omega (arith, w .facts .machine-count-most)

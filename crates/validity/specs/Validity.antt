@@ -19,6 +19,8 @@
 --   "a living machine told of as dead"                    toldOk (E)
 --   "or a replica number in it above 1 + the deaths       copyOk (E), against `maxReplica`: of jobs, pools, reserved and running copies and messages
 --    the root was told of"
+--   document 02, 2.4: "a table whose kept number          countsOk
+--    differs from the recount"
 --
 -- "a priced job keeps the replica number and place it had when priced, a dead machine keeps what it was told (neither counts as unused)":
 -- jobOk asks the same place and replica of an open and of a priced job, and toldOk does not ask whether m is alive.
@@ -28,6 +30,7 @@ use lib.Dec.{leb, eqb}
 use Rattle.lists.specs.Scan.{all, countTo}
 use Rattle.table.specs.declared.Table.{Table}
 use Rattle.table.specs.Views.{bondAt, jobAt, machineAt, poolAt, toldAt, messageAt}
+use Rattle.table.specs.Parts.{recount}
 use Rattle.validity_element.specs.Element.{bondOk, jobOk, machineOk, toldOk, cellOk}
 use Rattle.validity_message.specs.Message.{slotOk}
 
@@ -76,8 +79,17 @@ toldRow t m = all (λ d. toldOk (t .«machine_count») (machineAt t d .alive) m 
 unfoldable pub toldsOk : Table → Bool
 toldsOk t = all (toldRow t) 16
 
--- none of the conditions of row 9 holds
-unfoldable pub tableOk : Table → Bool
-tableOk t =
+-- each element passes its test
+unfoldable pub elementsOk : Table → Bool
+elementsOk t =
     sizesOk t && bondsOk t && jobsOk t (maxReplica t) && machinesOk t (maxReplica t) && poolsOk t (maxReplica t)
     && messagesOk t (maxReplica t) && rootOk t && toldsOk t
+
+-- each number that is kept of a whole array is that of the array. Document 02, 2.4: "An event on a table whose kept number differs from the recount is
+-- refused 9."
+unfoldable pub countsOk : Table → Bool
+countsOk t = eqb (t .«open_jobs») (recount t)
+
+-- none of the conditions of row 9 holds
+unfoldable pub tableOk : Table → Bool
+tableOk t = elementsOk t && countsOk t

@@ -1,12 +1,14 @@
-// Refusal 9: whether a table is in order. One function for each array,
-// over the tests of one element in the crates `validity_element` and `validity_message`.
+// Refusal 9: whether a table is in order, in two halves. The tests of one element: one function for each array, over the tests in the crates
+// `validity_element` and `validity_message`. And the counts over a whole array, each kept beside it.
 ghost use mathlib.Core.Path.{_≡_};
 ghost use Prim.Native.Nat.{ℕ, _+_, _*_, _<_};
 ghost use lib.ListN.{getD};
 ghost use Rattle.lists.specs.Scan.{all};
 ghost use Rattle.table.specs.Views.{machineAt};
 ghost use Rattle.validity_element.specs.Element.{toldOk, cellOk};
-ghost use Rattle.validity.specs.Validity.{sizesOk, maxReplica, bondsOk, jobsOk, machinesOk, poolsOk, messagesOk, rootOk, toldsOk, tableOk};
+ghost use Rattle.table.specs.Parts.{recount};
+ghost use Rattle.validity.specs.Validity.{sizesOk, maxReplica, bondsOk, jobsOk, machinesOk, poolsOk, messagesOk, rootOk, toldsOk, elementsOk};
+ghost use Rattle.validity.specs.Validity.{countsOk, tableOk};
 use table::Table;
 
 fn sizes_ok(t: Table) -> bool
@@ -190,9 +192,9 @@ fn tolds_ok(t: Table, alive: &[u8; 256]) -> bool
     true
 }
 
-// Whether the table passes check 9: false for any table that refusal 9 is for.
-pub fn table_ok(t: Table) -> bool
-    ensures { λ r. ⌜ r ≡ tableOk t ⌝ }
+// Whether each element passes its test.
+fn elements_ok(t: Table) -> bool
+    ensures { λ r. ⌜ r ≡ elementsOk t ⌝ }
 {
     let b = max_replica(t);
     let alive = alive_of(t);
@@ -204,4 +206,35 @@ pub fn table_ok(t: Table) -> bool
         & messages_ok(t, b, &alive)
         & root_ok(t)
         & tolds_ok(t, &alive)
+}
+
+// How many jobs are open: a full recount.
+pub fn recount(t: Table) -> u8
+    ensures { λ r. ⌜ r ≡ recount t ⌝ }
+{
+    let jobs = t.jobs;
+    let mut n: u8 = 0;
+    let mut i: usize = 0;
+    while i < 64 {
+        let v = jobs[i];
+        i += 1;
+        if v.state == table::OPEN {
+            n += 1;
+        }
+    }
+    n
+}
+
+// Whether each number that is kept of a whole array is that of the array.
+fn counts_ok(t: Table) -> bool
+    ensures { λ r. ⌜ r ≡ countsOk t ⌝ }
+{
+    t.open_jobs == recount(t)
+}
+
+// Whether the table passes check 9: false for any table that refusal 9 is for.
+pub fn table_ok(t: Table) -> bool
+    ensures { λ r. ⌜ r ≡ tableOk t ⌝ }
+{
+    elements_ok(t) & counts_ok(t)
 }

@@ -26,5 +26,6 @@ extern "C" {
     ) -> u8;
     pub fn rakhvide_open(book: *const u8, nb: usize, table: *mut u8, nt: usize) -> u8;
     pub fn rakhvide_check(table: *const u8, nt: usize) -> u8;
+    pub fn rakhvide_open_jobs(table: *const u8, nt: usize) -> u8;
     pub fn rakhvide_step(table: *mut u8, nt: usize, event: *const u8, ne: usize) -> u8;
 }

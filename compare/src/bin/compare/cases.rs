@@ -1,6 +1,6 @@
 //! The cases: each gives one random input to both implementations and reports where they differ.
 
-use crate::coverage::Coverage;
+use crate::coverage::{Coverage, OTHER_LENGTHS};
 use crate::damage;
 use crate::driver::{Aim, Driver};
 use crate::fields;
@@ -9,11 +9,8 @@ use crate::library::{Library, PAGE_BUFFER};
 use crate::rng::Rng;
 use second::book::{self, Book};
 use second::price::{Bond, PAYMENTS};
-use second::table::{Table, BYTES, ENTRIES, PRICED};
+use second::table::{self, Message, Table, BYTES, ENTRIES, OPEN, PRICED, RESULT};
 use second::{check, events, isin, page, price};
-
-/// The length of a snapshot before request 2.3, which is none now.
-const BEFORE_PAYMENTS: usize = BYTES - ENTRIES;
 
 /// How much was compared (events, tables or inputs), or what differs.
 pub type Outcome = Result<u64, String>;
@@ -182,8 +179,7 @@ fn count_book(coverage: &mut Coverage, bytes: &[u8]) {
 
 /// The table opened from a book, in a buffer that is mostly of the right length.
 pub fn opened(trial: &mut Trial, rng: &mut Rng, book: &[u8]) -> Result<Vec<u8>, String> {
-    let other = [0, 1, BEFORE_PAYMENTS, BYTES - 1, BYTES + 1];
-    let length = if rng.chance(1, 20) { rng.pick(&other) } else { BYTES };
+    let length = if rng.chance(1, 20) { rng.pick(&OTHER_LENGTHS) } else { BYTES };
     let before: Vec<u8> = (0..length).map(|at| (at % 251) as u8).collect();
     let (number, after) = match Book::read(book) {
         Err(number) => (number, before.clone()),
@@ -194,7 +190,21 @@ pub fn opened(trial: &mut Trial, rng: &mut Rng, book: &[u8]) -> Result<Vec<u8>, 
     trial.coverage.opened[usize::from(number)] += 1;
     same("open", trial.library.open(book, &mut table), number)?;
     same_bytes("open", &table, &after)?;
+    same_open_jobs(trial, &table)?;
     Ok(table)
+}
+
+/// The number of open jobs that bytes of any length and content answer.
+fn same_open_jobs(trial: &mut Trial, snapshot: &[u8]) -> Result<u8, String> {
+    let answer = trial.library.open_jobs(snapshot);
+    same("open jobs", answer, table::open_jobs(snapshot))?;
+    Ok(answer)
+}
+
+/// The same of a table that passes check 9, where it "equals a full recount" (document 02, 2.4).
+fn same_recount(trial: &mut Trial, table: &Table, snapshot: &[u8]) -> Result<(), String> {
+    let answer = same_open_jobs(trial, snapshot)?;
+    same("open jobs, recounted", answer, table.recount())
 }
 
 /// The page, its length and the whole buffer; now and then a buffer that is too short.
@@ -216,34 +226,54 @@ fn same_page(trial: &mut Trial, rng: &mut Rng, book: &[u8], events: &[u8]) -> Re
         );
     }
     same("page buffer past the page", after[length..].iter().all(|&byte| byte == 0xEE), true)?;
+    if !short {
+        trial.coverage.count_open_jobs("last line of a page", last_line(&text));
+    }
     trial.coverage.pages += 1;
     trial.coverage.longest_page = trial.coverage.longest_page.max(text.len());
     Ok(())
 }
 
-/// A run: a book that passes, its table, events chosen from the table's state, and at the end its page.
+/// How a page ends, in the words of `OPEN_JOBS`.
+fn last_line(text: &str) -> &'static str {
+    match text.lines().last().and_then(|line| line.strip_prefix("open ")) {
+        None => "book refused",
+        Some("0") => "open 0",
+        Some("64") => "open 64",
+        Some(number) if number.len() == 1 => "open, one digit",
+        Some(_) => "open, two digits",
+    }
+}
+
+/// A run: a book that passes, its table, events chosen from the table's state, and at the end two pages: of the
+/// events until most jobs are open, and of all.
 pub fn run(trial: &mut Trial, rng: &mut Rng) -> Outcome {
     let (bytes, aim) = book_of_run(rng);
     let mut table = Table::open(&Book::read(&bytes).expect("a book that passes"));
     let mut snapshot = vec![0; BYTES];
     same("open", trial.library.open(&bytes, &mut snapshot), 0)?;
     same_bytes("open", &snapshot, &table.to_bytes())?;
+    same_recount(trial, &table, &snapshot)?;
     let mut driver = Driver::new(rng, aim, &table);
     let mut list = Vec::new();
-    let mut length = 0;
+    let (mut length, mut open, mut until) = (0, 0, 0);
     while !ends(rng, aim, length, &table) {
         let event = driver.next(rng, &table);
         length += 1;
         list.extend(event.get(..3).unwrap_or(&[]));
-        let number =
-            step(trial, &mut table, &mut snapshot, &event).map_err(|text| format!("event {length} {text}"))?;
+        let number = step(trial, "event of a run", &mut table, &mut snapshot, &event)
+            .map_err(|text| format!("event {length} {text}"))?;
         trial.coverage.answers.count(&event, number);
         trial.coverage.table(&table);
+        if table.open_jobs > open {
+            (open, until) = (table.open_jobs, list.len());
+        }
     }
     for (bond, _) in table.bonds.iter().zip(&table.jobs).filter(|(_, job)| job.state == PRICED) {
         trial.coverage.count_below_zero("job priced in a run", (bond.ytm() < 0.0).into());
         trial.coverage.count_payments("job priced in a run", bond.payments);
     }
+    same_page(trial, rng, &bytes, &list[..until])?;
     extend_list(rng, &mut list, &table);
     same_page(trial, rng, &bytes, &list)?;
     trial.coverage.runs += 1;
@@ -310,19 +340,54 @@ fn met_full(table: &Table, event: &[u8]) -> Option<&'static str> {
     }
 }
 
-/// One event on both; number and all bytes afterwards are compared.
-fn step(trial: &mut Trial, table: &mut Table, snapshot: &mut Vec<u8>, event: &[u8]) -> Result<u8, String> {
-    let oldest = match *event {
+/// The message that an event delivers.
+fn oldest(table: &Table, event: &[u8]) -> Option<Message> {
+    match *event {
         [3, a, b, ..] => table.in_flight().iter().find(|m| m.from == a && m.to == b).copied(),
         _ => None,
-    };
+    }
+}
+
+/// What of `OPEN_JOBS` an event meets where it is accepted.
+fn met_open_jobs(table: &Table, event: &[u8]) -> Option<&'static str> {
+    match *event {
+        [1, ..] => Some("Admit"),
+        [7, 0, b, ..] => {
+            let recovered = table.jobs.iter().any(|job| job.state == OPEN && job.concerns(b));
+            recovered.then_some("Notice, recovered")
+        }
+        _ => {
+            let result = oldest(table, event).filter(|message| message.kind == RESULT)?;
+            Some(match table.jobs[usize::from(result.job)].state {
+                OPEN => "RESULT, open",
+                PRICED => "RESULT, priced",
+                _ => "RESULT, not admitted",
+            })
+        }
+    }
+}
+
+/// One event on both; number, all bytes and the number of open jobs afterwards are compared.
+fn step(
+    trial: &mut Trial,
+    place: &'static str,
+    table: &mut Table,
+    snapshot: &mut Vec<u8>,
+    event: &[u8],
+) -> Result<u8, String> {
+    let oldest = oldest(table, event);
     let before = oldest.map(|_| table.clone());
     let held = steal_conditions(table, event);
     let met = met_full(table, event).filter(|_| table.full());
+    let met_open = met_open_jobs(table, event);
     let number = events::step(table, event);
     let library = trial.library.step(snapshot, event);
     same(&format!("{event:?}"), library, number)?;
     same_bytes(&format!("{event:?} answered {number}"), snapshot, &table.to_bytes())?;
+    same_recount(trial, table, snapshot).map_err(|text| format!("{event:?} answered {number}: {text}"))?;
+    if let (Some(name), 0) = (met_open, number) {
+        trial.coverage.count_open_jobs(place, name);
+    }
     if let (Some(message), Some(before), 0) = (oldest, before, number) {
         trial.coverage.delivered(&message, &before, table);
     }
@@ -364,7 +429,7 @@ pub fn damaged(trial: &mut Trial, rng: &mut Rng) -> Outcome {
             (0..rng.pick(&[1, 1, 1, 2])).for_each(|_| damage::harm(rng, &mut snapshot));
         }
         if rng.chance(1, 40) {
-            snapshot.resize(rng.pick(&[0, 1, BEFORE_PAYMENTS, BYTES - 1, BYTES + 1]), 0);
+            snapshot.resize(rng.pick(&OTHER_LENGTHS), 0);
         }
         one_damaged(trial, rng, snapshot, &event).map_err(|text| format!("damaged table {number}: {text}"))?;
     }
@@ -386,8 +451,8 @@ fn one_damaged(trial: &mut Trial, rng: &mut Rng, mut snapshot: Vec<u8>, event: &
         Some(table) => check::check(table).err().map(Some),
     };
     let number = if fault.is_some() { 9 } else { 0 };
-    trial.coverage.without_payments += u64::from(snapshot.len() == BEFORE_PAYMENTS);
     same(&format!("check ({fault:?})"), trial.library.check(&snapshot), number)?;
+    same_open_jobs(trial, &snapshot)?;
     if let Some(table) = &read {
         count_checked_yield(trial, table, fault.flatten());
         count_checked_payments(trial, table, fault.flatten());
@@ -397,8 +462,11 @@ fn one_damaged(trial: &mut Trial, rng: &mut Rng, mut snapshot: Vec<u8>, event: &
             trial.coverage.damaged_passed += 1;
             some_steps(trial, rng, &mut table, &mut snapshot, event)
         }
-        (fault, _) => {
-            *trial.coverage.faults.entry(fault.flatten()).or_default() += 1;
+        (fault, read) => {
+            match (fault.flatten(), &read) {
+                (Some(fault), Some(table)) => trial.coverage.failed(fault, table),
+                _ => trial.coverage.no_table(snapshot.len()),
+            }
             let before = snapshot.clone();
             trial.coverage.damaged_answers.count(event, 9);
             same(&format!("{event:?}"), trial.library.step(&mut snapshot, event), 9)?;
@@ -468,7 +536,7 @@ fn some_steps(
 ) -> Result<(), String> {
     let mut event = event.to_vec();
     for _ in 0..1 + rng.below(8) {
-        let number = step(trial, table, snapshot, &event)?;
+        let number = step(trial, "event on a damaged table", table, snapshot, &event)?;
         trial.coverage.damaged_answers.count(&event, number);
         event = event_for(rng, table);
     }

@@ -79,6 +79,23 @@ const PAYMENTS: [(&str, &[Option<u8>]); 9] = [
     ("unused entry refused for it", &[Some(1), Some(2), Some(4), Some(12)]),
 ];
 
+/// Lengths that no snapshot has: no byte, one, those of snapshots before requests 2.3 and 2.4 (the latter is one
+/// byte short), and one byte too many.
+pub const OTHER_LENGTHS: [usize; 5] = [0, 1, BYTES - 1 - ENTRIES, BYTES - 1, BYTES + 1];
+
+/// What is to be met of the number of open jobs (document 02, 2.4): accepted events that change it, or that deal
+/// with jobs and leave it; by how much a kept number differs; where else it is asked for; how a page ends.
+const OPEN_JOBS: [(&str, &[&str]); 5] = [
+    ("event of a run", &["Admit", "RESULT, open", "RESULT, priced", "Notice, recovered"]),
+    (
+        "event on a damaged table",
+        &["Admit", "RESULT, open", "RESULT, priced", "RESULT, not admitted", "Notice, recovered"],
+    ),
+    ("refused 9 for it alone", &["one too high", "one too low", "255", "other"]),
+    ("answered though refused 9", &["faulty table", "no table"]),
+    ("last line of a page", &["open 0", "open, one digit", "open, two digits", "open 64", "book refused"]),
+];
+
 /// What is to be met of adding an entry to a faulty book: its numbers.
 pub const REFUSED_BOOKS: [&str; 7] = [
     "book refused 1",
@@ -165,8 +182,10 @@ pub struct Coverage {
     pub below_zero: BTreeMap<&'static str, u64>,
     /// By the names of `PAYMENTS` and the number.
     pub payments: BTreeMap<(&'static str, Option<u8>), u64>,
-    /// Snapshots of the length that they had without payments.
-    pub without_payments: u64,
+    /// By the places of `OPEN_JOBS` and what was met there.
+    pub open_jobs: BTreeMap<(&'static str, &'static str), u64>,
+    /// The largest answer in a run.
+    pub most_open: u8,
     pub pages: u64,
     pub longest_page: usize,
     pub runs: u64,
@@ -182,8 +201,30 @@ pub struct Coverage {
     pub most_in_flight: u8,
     pub largest_replica: u8,
     pub damaged_passed: u64,
-    /// None: bytes that are no table.
+    /// Tables that fail check 9. None: bytes that are no table.
     pub faults: BTreeMap<Option<Fault>, u64>,
+    /// Those whose kept number of open jobs differs too; they are not among the others.
+    pub faults_and_number: u64,
+    /// Bytes that are no table by their length, which is one of `OTHER_LENGTHS`.
+    pub lengths: BTreeMap<usize, u64>,
+}
+
+/// What of a list by places was never counted.
+fn never<P: Copy + Ord, K: Copy + Ord>(all: &[(P, &[K])], counts: &BTreeMap<(P, K), u64>) -> Vec<(P, K)> {
+    let pairs = all.iter().flat_map(|(place, names)| names.iter().map(move |name| (*place, *name)));
+    pairs.filter(|pair| !counts.contains_key(pair)).collect()
+}
+
+/// Each place of such a list with its counts.
+fn print_places<K: Copy + Ord>(
+    all: &[(&'static str, &[K])],
+    counts: &BTreeMap<(&'static str, K), u64>,
+    name: fn(K) -> String,
+) {
+    for (place, keys) in all {
+        let count = |key: &K| format!("{}: {}", name(*key), counts.get(&(*place, *key)).unwrap_or(&0));
+        println!("  {place:29} {}", keys.iter().map(count).collect::<Vec<_>>().join("  "));
+    }
 }
 
 impl Coverage {
@@ -229,6 +270,41 @@ impl Coverage {
         *self.payments.entry((place, payments)).or_default() += 1;
     }
 
+    /// Something of `OPEN_JOBS` was met at its place.
+    pub fn count_open_jobs(&mut self, place: &'static str, name: &'static str) {
+        *self.open_jobs.entry((place, name)).or_default() += 1;
+    }
+
+    /// A table that fails check 9, by the condition that was found first. The number of open jobs is found where
+    /// nothing else fails; all others are to be met where it is right.
+    pub fn failed(&mut self, fault: Fault, table: &Table) {
+        self.count_open_jobs("answered though refused 9", "faulty table");
+        let recount = table.recount();
+        if fault != Fault::OpenJobs && table.open_jobs != recount {
+            self.faults_and_number += 1;
+            return;
+        }
+        *self.faults.entry(Some(fault)).or_default() += 1;
+        let name = match (table.open_jobs, table.open_jobs.wrapping_sub(recount)) {
+            (_, 0) => return,
+            (255, _) => "255",
+            (_, 1) => "one too high",
+            (_, 255) => "one too low",
+            _ => "other",
+        };
+        self.count_open_jobs("refused 9 for it alone", name);
+    }
+
+    /// Bytes of this length that are no table.
+    pub fn no_table(&mut self, length: usize) {
+        *self.faults.entry(None).or_default() += 1;
+        if length == BYTES {
+            self.count_open_jobs("answered though refused 9", "no table");
+        } else {
+            *self.lengths.entry(length).or_default() += 1;
+        }
+    }
+
     /// Something of `writer_names` was met.
     pub fn count_writer(&mut self, name: &'static str) {
         *self.writer.entry(name).or_default() += 1;
@@ -236,6 +312,7 @@ impl Coverage {
 
     pub fn table(&mut self, table: &Table) {
         self.most_in_flight = self.most_in_flight.max(table.in_flight);
+        self.most_open = self.most_open.max(table.open_jobs);
         let largest = table.jobs.iter().map(|job| job.replica).max();
         self.largest_replica = self.largest_replica.max(largest.unwrap_or(0));
     }
@@ -258,11 +335,21 @@ impl Coverage {
         for (name, count) in &self.below_zero {
             println!("  {name:29} {count}");
         }
-        self.print_payments();
+        println!("payments per year");
+        print_places(&PAYMENTS, &self.payments, |payments| {
+            payments.map_or("other".into(), |payments| payments.to_string())
+        });
+        println!("open jobs");
+        print_places(&OPEN_JOBS, &self.open_jobs, str::to_string);
         println!("entries added");
         for name in writer_names() {
             println!("  {name:29} {}", self.writer.get(name).unwrap_or(&0));
         }
+        self.print_runs();
+        self.print_damaged();
+    }
+
+    fn print_runs(&self) {
         println!(
             "runs         {}; pages {}, the longest of {} bytes",
             self.runs, self.pages, self.longest_page
@@ -276,28 +363,18 @@ impl Coverage {
         for (name, count) in &self.full {
             println!("  {name:29} {count}");
         }
-        println!("most messages in flight {}; largest replica {}", self.most_in_flight, self.largest_replica);
+        println!(
+            "most messages in flight {}; largest replica {}; most open jobs {}",
+            self.most_in_flight, self.largest_replica, self.most_open
+        );
         println!("messages handled, by what came of them");
         for ((kind, outcome), count) in &self.handled {
             println!("  {:8} {outcome:16} {count}", KINDS[usize::from(*kind)]);
         }
-        self.print_damaged();
-    }
-
-    fn print_payments(&self) {
-        println!("payments per year");
-        for (place, all) in PAYMENTS {
-            let counts = all.iter().map(|payments| {
-                let name = payments.map_or("other".into(), |payments| payments.to_string());
-                format!("{name}: {}", self.payments.get(&(place, *payments)).unwrap_or(&0))
-            });
-            println!("  {place:29} {}", counts.collect::<Vec<_>>().join("  "));
-        }
-        println!("  {:29} {}", "snapshot of the old length", self.without_payments);
     }
 
     fn print_damaged(&self) {
-        let failed: u64 = self.faults.values().sum();
+        let failed: u64 = self.faults.values().sum::<u64>() + self.faults_and_number;
         println!(
             "damaged tables: {} passed check 9, {failed} did not, by what was found first:",
             self.damaged_passed
@@ -308,6 +385,9 @@ impl Coverage {
                 None => println!("  {:24} {count}", "no table"),
             }
         }
+        println!("  {:24} {}", "OpenJobs and another", self.faults_and_number);
+        let lengths = self.lengths.iter().map(|(length, count)| format!("{length}: {count}"));
+        println!("no table by the length: {}", lengths.collect::<Vec<_>>().join("  "));
         self.damaged_answers.print("answers to the events on damaged tables");
     }
 
@@ -316,32 +396,32 @@ impl Coverage {
         let mut missing: Vec<String> = self.answers.missing().collect();
         let faults = Fault::ALL.iter().filter(|fault| !self.faults.contains_key(&Some(**fault)));
         missing.extend(faults.map(|fault| format!("{fault:?}")));
-        let outcomes =
-            OUTCOMES.iter().flat_map(|(kind, all)| all.iter().map(move |outcome| (*kind, *outcome)));
-        let never = outcomes.filter(|outcome| !self.handled.contains_key(outcome));
-        missing.extend(never.map(|(kind, outcome)| format!("{} {outcome}", KINDS[usize::from(kind)])));
-        let never = STEAL_PAIRS.iter().filter(|pair| !self.steals.contains_key(*pair));
-        missing.extend(never.map(|(first, second)| format!("Steal: {first}, {second}")));
-        let never = FULL.iter().filter(|name| !self.full.contains_key(*name));
-        missing.extend(never.map(|name| format!("128 in flight: {name}")));
+        for (kind, outcome) in never(&OUTCOMES, &self.handled) {
+            missing.push(format!("{} {outcome}", KINDS[usize::from(kind)]));
+        }
+        let pairs = STEAL_PAIRS.iter().filter(|pair| !self.steals.contains_key(*pair));
+        missing.extend(pairs.map(|(first, second)| format!("Steal: {first}, {second}")));
+        let full = FULL.iter().filter(|name| !self.full.contains_key(*name));
+        missing.extend(full.map(|name| format!("128 in flight: {name}")));
         missing.extend((1..=7u8).filter(|n| self.books[usize::from(*n)] == 0).map(|n| format!("book {n}")));
-        let never = BELOW_ZERO.iter().filter(|name| !self.below_zero.contains_key(*name));
-        missing.extend(never.map(|name| format!("yield below 0: {name}")));
-        let payments =
-            PAYMENTS.iter().flat_map(|(place, all)| all.iter().map(move |payments| (*place, *payments)));
-        let never = payments.filter(|both| !self.payments.contains_key(both));
-        missing.extend(never.map(|(place, payments)| format!("payments {payments:?}: {place}")));
-        let never = writer_names().filter(|name| !self.writer.contains_key(name));
-        missing.extend(never.map(|name| format!("entry added: {name}")));
-        if self.without_payments == 0 {
-            missing.push("snapshot of the old length".into());
+        let yields = BELOW_ZERO.iter().filter(|name| !self.below_zero.contains_key(*name));
+        missing.extend(yields.map(|name| format!("yield below 0: {name}")));
+        for (place, payments) in never(&PAYMENTS, &self.payments) {
+            missing.push(format!("payments {payments:?}: {place}"));
         }
-        if self.most_in_flight < 128 {
-            missing.push("128 in flight".into());
+        for (place, name) in never(&OPEN_JOBS, &self.open_jobs) {
+            missing.push(format!("open jobs: {place}: {name}"));
         }
-        if self.largest_replica < 5 {
-            missing.push("replica 5".into());
-        }
+        let names = writer_names().filter(|name| !self.writer.contains_key(name));
+        missing.extend(names.map(|name| format!("entry added: {name}")));
+        let lengths = OTHER_LENGTHS.iter().filter(|length| !self.lengths.contains_key(length));
+        missing.extend(lengths.map(|length| format!("snapshot of {length} bytes")));
+        let most = [
+            (self.most_in_flight >= 128, "128 in flight"),
+            (self.largest_replica >= 5, "replica 5"),
+            (self.most_open >= 64, "64 open jobs"),
+        ];
+        missing.extend(most.iter().filter(|(reached, _)| !reached).map(|(_, name)| name.to_string()));
         missing
     }
 }

@@ -51,6 +51,7 @@ fn change_job(rng: &mut Rng, table: &mut Table) {
         NOT_ADMITTED => Job::NONE,
         _ => Job { state, replica, moving, holder, thief, price },
     };
+    table.open_jobs = table.recount();
 }
 
 fn change_pool(rng: &mut Rng, table: &mut Table, machine: u8) {
@@ -144,13 +145,14 @@ fn reserve_for(rng: &mut Rng, table: &mut Table, message: &Message) {
 
 /// One change that breaks a condition of row 9 which a changed field alone seldom breaks, and no other.
 pub fn targeted(rng: &mut Rng, table: &mut Table) {
-    match rng.below(8) {
+    match rng.below(10) {
         0 => silence(table, 0, true),
         1 => silence(table, 1 + rng.number(table.machines - 1), false),
         2 => misdirect(rng, table),
         3 => overtake(rng, table),
         4 if table.entries > 0 => pass_an_end(rng, table),
         5 | 6 => change_payments(rng, table),
+        7 | 8 => miscount(rng, table),
         _ => {
             let (machine, of) = (rng.number(table.machines), rng.number(table.machines));
             table.told[usize::from(machine)][usize::from(of)] = 1;
@@ -200,6 +202,20 @@ fn change_payments(rng: &mut Rng, table: &mut Table) {
     }
 }
 
+/// The kept number of open jobs becomes one too high, one too low or 255; or a job changes and the number stays.
+fn miscount(rng: &mut Rng, table: &mut Table) {
+    let kept = table.open_jobs;
+    match rng.below(4) {
+        0 => table.open_jobs = kept + 1,
+        1 => table.open_jobs = kept.wrapping_sub(1),
+        2 => table.open_jobs = 255,
+        _ => {
+            change_job(rng, table);
+            table.open_jobs = kept;
+        }
+    }
+}
+
 /// Some replica number becomes one more than the largest that passes.
 fn overtake(rng: &mut Rng, table: &mut Table) {
     let large = 2 + table.told[0].iter().sum::<u8>();
@@ -218,21 +234,24 @@ fn overtake(rng: &mut Rng, table: &mut Table) {
 }
 
 /// One field set to a value at or near the end of some range, to one more or less, or to any; or one byte
-/// to any. Mostly a field that is in use. The table may pass check 9 after it or not.
+/// to any. Mostly a field that is in use. After a job's state the kept number of open jobs is mostly made right,
+/// so that the state's own conditions decide. The table may pass check 9 after it or not.
 pub fn harm(rng: &mut Rng, bytes: &mut [u8]) {
     if rng.chance(1, 12) {
         let at = rng.below(bytes.len());
         bytes[at] = rng.byte();
         return;
     }
-    if rng.chance(1, 25) {
-        bytes[IN_FLIGHT_AT] = value(rng, bytes, IN_FLIGHT_AT);
-        return;
-    }
     let used = rng.chance(4, 5);
     let field = fields::any(rng, bytes, used);
     match (field.width, field.name) {
-        (1, _) => bytes[field.at] = value(rng, bytes, field.at),
+        (1, name) => {
+            bytes[field.at] = value(rng, bytes, field.at);
+            if name == "state" && rng.chance(3, 4) {
+                let states = bytes[JOBS_AT..MACHINES_AT].iter().step_by(JOB_BYTES);
+                bytes[OPEN_JOBS_AT] = states.filter(|&&state| state == OPEN).count() as u8;
+            }
+        }
         (_, "price") => bytes[field.at + rng.below(8)] ^= 1 << rng.below(8),
         _ => bytes[field.at..field.at + 8].copy_from_slice(&inputs::float(rng).to_le_bytes()),
     }

@@ -1,5 +1,5 @@
 //! Events chosen from a table's state, so that long runs of accepted events happen, mixed with events that
-//! are refused. A plan leads to what chance alone seldom reaches: many deaths, a full channel.
+//! are refused. A plan leads to what chance alone seldom reaches: many deaths, a second RESULT, a full channel.
 
 use crate::rng::Rng;
 use second::table::{Table, ENTRIES};
@@ -42,6 +42,9 @@ impl Driver {
             Aim::Noise => driver.noise = 70,
             Aim::Deaths => {
                 driver.planned = 85;
+                if rng.chance(1, 2) {
+                    driver.plan_second_result();
+                }
                 driver.plan_deaths(rng, table);
             }
             Aim::Flood => {
@@ -58,6 +61,19 @@ impl Driver {
     pub fn plain() -> Driver {
         let weights = [0, 2, 4, 16, 4, 4, 1, 3];
         Driver { weights, noise: 10, planned: 0, plan: VecDeque::new(), blocked: None }
+    }
+
+    /// Machine 1 gets job 0 and hands it to machine 2, whose ACK stays in flight while machine 1 dies: the root
+    /// runs the next replica, and machine 2's RESULT finds the job priced.
+    fn plan_second_result(&mut self) {
+        self.plan.push_back(Task::Event([1, 0, 0]));
+        self.plan_handover(0, 1, 5);
+        self.plan_handover(1, 2, 4);
+        self.plan.extend([[6, 1, 0], [7, 0, 1]].map(Task::Event));
+        for machine in [0, 2] {
+            self.plan.extend([[4, machine, 0], [5, machine, 0]].map(Task::Event));
+            self.plan.push_back(Task::Drain(machine, 0));
+        }
     }
 
     /// Machines one after another take a job from the root and die; the root is told, others sometimes.

@@ -12,7 +12,7 @@ struct Region {
     fields: &'static [(&'static str, usize)],
 }
 
-const REGIONS: [Region; 7] = [
+const REGIONS: [Region; 8] = [
     Region { name: "counts", start: 0, count: 1, width: 2, fields: &[("machines", 1), ("entries", 1)] },
     Region {
         name: "terms",
@@ -45,6 +45,13 @@ const REGIONS: [Region; 7] = [
     },
     Region { name: "told", start: TOLD_AT, count: MACHINES * MACHINES, width: 1, fields: &[("flag", 1)] },
     Region { name: "pools", start: POOLS_AT, count: MACHINES * ENTRIES, width: 1, fields: &[("replica", 1)] },
+    Region {
+        name: "counts",
+        start: IN_FLIGHT_AT,
+        count: 1,
+        width: 2,
+        fields: &[("messages in flight", 1), ("open jobs", 1)],
+    },
     Region {
         name: "messages",
         start: MESSAGES_AT,
@@ -89,9 +96,6 @@ pub fn any(rng: &mut Rng, table: &[u8], used: bool) -> Field {
 
 /// The name of a byte, as "jobs 3 replica".
 pub fn name(offset: usize) -> String {
-    if offset == IN_FLIGHT_AT {
-        return "messages in flight".into();
-    }
     let Some(region) = REGIONS.iter().rfind(|region| region.start <= offset) else { return String::new() };
     let mut inside = (offset - region.start) % region.width;
     for (field, width) in region.fields {

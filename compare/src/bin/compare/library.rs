@@ -149,6 +149,13 @@ impl Library {
         number
     }
 
+    /// How many jobs are open.
+    pub fn open_jobs(&mut self, table: &[u8]) -> u8 {
+        let open = unsafe { c::rakhvide_open_jobs(self.first.put(table), table.len()) };
+        self.first.unchanged(table);
+        open
+    }
+
     /// The number; `table` becomes what the buffer holds after the call.
     pub fn step(&mut self, table: &mut [u8], event: &[u8]) -> u8 {
         let (out, at) = (self.out.put(table), self.second.put(event));

@@ -15,6 +15,7 @@ use Rattle.table.specs.Views.{machineAt, messageAt, withMessages, parts}
 use Rattle.table.proofs.Long.{long}
 use Rattle.table.specs.Needs.{Ready}
 use Rattle.table.proofs.Views.{Sized}
+use Rattle.table.proofs.Open.{open-job-in, withOpen, with-open}
 use Rattle.validity.specs.Validity.{tableOk}
 use Rattle.protocol_change.specs.declared.Change.{Change}
 use Rattle.protocol_change.specs.Change.{partsAt}
@@ -26,7 +27,7 @@ use Rattle.dispatcher.specs.EventParts.{askOf}
 use Rattle.dispatcher.specs.Step.{answerOf}
 use Rattle.dispatcher.proofs.Preserved.{step-answer, run-ok, run-sized}
 use Rattle.dispatcher.proofs.Accepted.{answer-refused}
-use Rattle.dispatcher.proofs.Ready.{passed-sized, ready, empty-past, within-any}
+use Rattle.dispatcher.proofs.Ready.{passed-sized, ready, empty-past, within-any, open-fits}
 use Rattle.dispatcher.proofs.Turns.{Turn, turn-none, turn-more, turn-end}
 use Rattle.dispatcher.proofs.Search.{Search, search-none, search-found, search-more, search-slot, search-most, search-message}
 use Rattle.dispatcher.proofs.OnTable.{Placed, written, by-value, steal-below}
@@ -55,7 +56,7 @@ abbrev μ-loop : tie.MeasureT-loop
 
 -- ---- where the proof stands, and the way back from there
 
--- in a turn; past the search; where the event looks; its number; its change; how many messages stay
+-- in a turn; past the search; where the event looks; its number; its change; how many jobs are open after it; how many messages stay
 abbrev In-turn : Type 0
 In-turn = tie.In-loop Inv-loop2 μ-loop2 Inv-loop3 μ-loop3 Inv-loop μ-loop
 
@@ -70,6 +71,9 @@ Numbered = tie.After-number-of Inv-loop2 μ-loop2 Inv-loop3 μ-loop3 Inv-loop μ
 
 abbrev Changed : Type 0
 Changed = tie.After-change-of Inv-loop2 μ-loop2 Inv-loop3 μ-loop3 Inv-loop μ-loop
+
+abbrev Counted : Type 0
+Counted = tie.After-open-after Inv-loop2 μ-loop2 Inv-loop3 μ-loop3 Inv-loop μ-loop
 
 abbrev Keeping : Type 0
 Keeping = tie.After-kept Inv-loop2 μ-loop2 Inv-loop3 μ-loop3 Inv-loop μ-loop
@@ -89,8 +93,15 @@ looking c = c .before .before .before .before .before .before
 abbrev numbered : Changed → Numbered
 numbered c = c .before .before .before .before .before .before
 
+-- how many jobs are open has been counted on
+abbrev recounted : Keeping → Counted
+recounted c = c .before
+
+abbrev before-count : Counted → Changed
+before-count c = c .before .before .before
+
 abbrev changed : Keeping → Changed
-changed c = c .before .before .before
+changed c = before-count (recounted c)
 
 -- the table of the turn, and its event
 abbrev table : In-turn → Table
@@ -203,6 +214,19 @@ change-is : (c : Changed)
 unfolding partsAt parts
 change-is c = c .change-of .ensures
 
+-- the parts are written, and the number of open jobs goes with the job's state
+written-is : (c : Counted)
+    → let d = before-count c in
+    let w = looking (numbered d) in
+    let u = written (table (turn w)) (w .place-of .result .machine) (w .place-of .result .job) (d .change-of .result) in
+    withOpen u (c .open-after .result) ≡ u
+unfolding parts
+written-is c =
+    let d = before-count c in
+    let w = looking (numbered d) in
+    let i = turn w in
+    with-open _ _ (c .open-after .ensures ∙ sym (open-job-in (table i) (w .place-of .result .job) (d .change-of .result .job) (measured i) (within-arrays w .job)))
+
 kept-is : (c : Keeping)
     → let w = looking (numbered (changed c)) in
     c .kept .result ≡ kept (searched w .before .loop2 .slot) (table (turn w) .«in_flight»)
@@ -246,7 +270,9 @@ settles c =
     let i = turn w in
     let o = w .place-of .result in
     let x = d .change-of .result in
-    let up = v .inv .2 ∙ ap (λ (y : Change). movedUp (written (table i) (o .machine) (o .job) y) (searched w .before .loop2 .slot) (v .slot)) (change-is d) in
+    let up = v .inv .2
+    ∙ ap (λ (y : Table). movedUp y (searched w .before .loop2 .slot) (v .slot)) (written-is (recounted k))
+    ∙ ap (λ (y : Change). movedUp (written (table i) (o .machine) (o .job) y) (searched w .before .loop2 .slot) (v .slot)) (change-is d) in
     let last =
     c .before .stored .ensures
     ∙ ap (λ (y : Table). stored (x .sent) (machineAt y (x .sent .to))) (v .inv .2)
@@ -309,6 +335,12 @@ element-copy-out-bond c =
 
 change-of-requires : tie.Need-change-of-requires Inv-loop2 μ-loop2 Inv-loop3 μ-loop3 Inv-loop μ-loop
 change-of-requires c κs = let w = looking (c .before .before .before .before .before) in steal-below _ (fit (turn w)) _ _ (looked w .asked)
+
+open-after-requires : tie.Need-open-after-requires Inv-loop2 μ-loop2 Inv-loop3 μ-loop3 Inv-loop μ-loop
+unfolding parts
+open-after-requires c κs =
+    let w = looking (numbered (c .before .before)) in
+    open-fits (table (turn w)) (passed (turn w)) (w .place-of .result .job) (within-arrays w .job)
 
 loop3-holds : tie.Need-loop3-holds Inv-loop2 μ-loop2 Inv-loop3 μ-loop3 Inv-loop μ-loop
 unfolding parts
@@ -405,6 +437,7 @@ run-spec =
     (λ c. let p = within-arrays (looking (numbered (c .before .before))) in search needs)
     (λ c. let p = within-arrays (looking (numbered (c .before .before))) in search needs)
     (λ c. let p = within-arrays (looking (numbered (c .before .before))) in search needs)
+    open-after-requires
     (λ c κs. search needs)
     loop3-holds
     (λ c. search needs)

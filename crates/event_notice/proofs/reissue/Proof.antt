@@ -7,7 +7,7 @@ use Rattle.lists.proofs.Rules.{tests}
 use Rattle.lists.proofs.Scans.{up-end, up-more, up-none}
 use Rattle.lists.specs.Scan.{upTo}
 use Rattle.table.specs.Views.{jobAt, parts}
-use Rattle.event_notice.proofs.Parts.{reissue-unaffected, reissue-affected}
+use Rattle.event_notice.proofs.Parts.{reissue-unaffected, reissue-affected, open-before}
 use Rattle.event_notice.specs.Notice.{reissue, reissueOne}
 use Rattle.event_notice.proofs.reissue.Statement.{statement}
 use Rattle.event_notice.proofs.reissue.Tie as tie
@@ -26,6 +26,13 @@ unfolding parts
 add-open-on-root c =
     let h = c .before .before .before .before .before .before .pre (c .before .before .before .before .before .loop .j) (search tests) in
     omega arith
+
+open-on-root-requires : tie.Need-open-on-root-requires Inv-loop μ-loop
+unfolding parts
+open-on-root-requires c κs =
+    let l = c .before .before .before .before .before .loop in
+    let a = c .before .before .before .before .before .before .args in
+    (search tests, open-before (a .t1) (l .u) (a .b) (l .j) (l .inv .1) (sym (c .before .before .affected .ensures) ∙ c .before .if1 .taken))
 
 loop-again : tie.Need-loop-again Inv-loop μ-loop
 unfolding parts
@@ -59,7 +66,7 @@ reissue-spec =
     (λ c. search tests)
     (λ c κs. search tests)
     add-open-on-root
-    (λ c κs. search tests)
+    open-on-root-requires
     (λ c. search tests)
     loop-again
     (λ c. search tests)

@@ -7,13 +7,15 @@ use Rattle.snapshot_read.proofs.decode.Tie as tie
 returns : tie.Need-returns
 unfolding decode
 returns c =
+    let p = c .before .before .before .before in
+    let m = p .before .before .before in
     rw (
-      c .before .before .before .before .before .before .before .before .bonds .ensures,
-      c .before .before .before .before .before .before .before .jobs .ensures,
-      c .before .before .before .before .before .before .machines .ensures,
-      c .before .before .before .before .before .told .ensures,
-      c .before .before .before .before .pools .ensures,
-      c .before .before .before .messages .ensures,
+      m .before .before .bonds .ensures,
+      m .before .jobs .ensures,
+      m .machines .ensures,
+      p .before .before .told .ensures,
+      p .before .pools .ensures,
+      p .messages .ensures,
     )
 
 pub decode-spec : {M : Type 1} → statement M
@@ -26,6 +28,7 @@ decode-spec =
     (λ c κs. search needs)
     (λ c κs. search needs)
     (λ c κs. search needs)
+    (λ c. search needs)
     (λ c. search needs)
     (λ c. search needs)
     (λ c. search needs)

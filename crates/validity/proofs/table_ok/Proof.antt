@@ -1,4 +1,4 @@
--- `validity::table_ok` meets its contract. The definition joins what the functions it calls equal, in the same order.
+-- `validity::table_ok` meets its contract. The definition joins what the two functions that it calls equal.
 -- Assumes nothing.
 use borrow.Author.Needs.{needs}
 use Rattle.validity.specs.Validity.{tableOk}
@@ -7,34 +7,7 @@ use Rattle.validity.proofs.table_ok.Tie as tie
 
 returns : tie.Need-returns
 unfolding tableOk
-returns c =
-    let m = c .before .before .before in
-    let p = m .before .before in
-    let s = p .before .before .before .before in
-    rw (
-      s .sizes-ok .ensures,
-      p .before .before .before .bonds-ok .ensures,
-      p .before .before .jobs-ok .ensures,
-      p .before .machines-ok .ensures,
-      p .pools-ok .ensures,
-      m .messages-ok .ensures,
-      c .before .before .root-ok .ensures,
-      c .tolds-ok .ensures,
-      s .before .before .max-replica .ensures,
-    )
+returns c = rw (c .before .elements-ok .ensures, c .counts-ok .ensures)
 
 pub table-ok-spec : {M : Type 1} → statement M
-table-ok-spec =
-    tie.close
-    (tie.spec
-    (λ c κs. search needs)
-    (λ c κs. search needs)
-    (λ c κs. search needs)
-    (λ c κs. search needs)
-    (λ c κs. search needs)
-    (λ c κs. search needs)
-    (λ c κs. search needs)
-    (λ c κs. c .before .before .before .before .before .before .alive-of .ensures)
-    (λ c κs. search needs)
-    (λ c κs. c .before .before .before .before .before .before .before .before .before .alive-of .ensures)
-    returns)
+table-ok-spec = tie.close (tie.spec (λ c κs. search needs) (λ c κs. search needs) returns)
