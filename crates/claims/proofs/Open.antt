@@ -9,7 +9,7 @@ use mathlib.Core.List.{List, [], _∷_}
 use native.Mathlib.Omega.{arith}
 use borrow.Author.Tests.{eqb-true, eq-eqb, ne-eqb}
 use lib.Dec.{eqb}
-use Rattle.lists.proofs.Cases.{byBool, and-left, and-right}
+use Rattle.lists.proofs.Cases.{byBool, and-left, and-right, and-no}
 use Rattle.book.specs.Book.{bookVerdict}
 use Rattle.table.specs.declared.Job.{Job}
 use Rattle.table.specs.declared.Table.{Table}
@@ -61,10 +61,6 @@ module _ {a d f : Bool} {p : ℕ} {v w : Job} where
 
 -- ---- the recount through one event
 
-and-false : (a b : Bool) → b ≡ false → a && b ≡ false
-and-false true b e = e
-and-false false b e = refl
-
 module _ (t : Table) (w : Invariant t) (e : List ℕ) where
   abbrev u : Table
   u = stepOf t e .table
@@ -105,8 +101,8 @@ module _ (t : Table) (w : Invariant t) (e : List ℕ) where
       let l = named yes code in
       let s = becomes-open (change-step t w e j l) (rw (yes, code, eq-eqb j j refl) refl) in
       let r = one-job j l
-      (λ i k n. and-false (isAccepted t e) _ (and-false (eqb (codeOf e) ADMIT) _ (ne-eqb j i (λ z. n (sym z)))))
-      (λ i k n. and-false (isAccepted t e) _ (rw code refl)) in
+      (λ i k n. and-no (isAccepted t e) _ (and-no (eqb (codeOf e) ADMIT) _ (ne-eqb j i (λ z. n (sym z)))))
+      (λ i k n. and-no (isAccepted t e) _ (rw code refl)) in
       let q : recount u + 0 ≡ recount t + 1 = rw (s .0, s .1) at r in
       number-after ∙ omega (arith, q, number-before)
 
@@ -127,8 +123,8 @@ module _ (t : Table) (w : Invariant t) (e : List ℕ) where
       let l = job-64 t j w (λ z. omega arith) in
       let s = becomes-priced (change-step t w e j l) (rw (yes, c, k, eq-eqb j j refl) refl) o in
       let r = one-job j l
-      (λ i g n. and-false (isAccepted t e) _ (rw c refl))
-      (λ i g n. and-false (isAccepted t e) _ (and-false code _ (and-false kind _ (ne-eqb j i (λ z. n (sym z)))))) in
+      (λ i g n. and-no (isAccepted t e) _ (rw c refl))
+      (λ i g n. and-no (isAccepted t e) _ (and-no code _ (and-no kind _ (ne-eqb j i (λ z. n (sym z)))))) in
       let q : recount u + 1 ≡ recount t + 0 = rw (s, o) at r in
       omega (arith, q, number-before, number-after)
 

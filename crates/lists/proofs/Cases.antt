@@ -36,6 +36,9 @@ pub and-false : (a : Bool) → (a && false) ≡ false
 and-false true = refl
 and-false false = refl
 
+pub and-no : (a b : Bool) → b ≡ false → a && b ≡ false
+and-no a b e = rw e (and-false a)
+
 pub and-true : (a : Bool) → (a && true) ≡ a
 and-true true = refl
 and-true false = refl

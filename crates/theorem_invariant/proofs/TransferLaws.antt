@@ -1,7 +1,7 @@
 -- What clauses R, O, N, H and S of the invariant speak of: which messages count for a job's move, and what goes by the views of a table alone.
 -- Assumes nothing.
 use mathlib.Core.Path.{_≡_, refl, sym, ap, _∙_}
-use mathlib.Core.Bool.{Bool, true, false, _&&_, true≢false}
+use mathlib.Core.Bool.{true, false, _&&_, true≢false}
 use mathlib.Core.List.{List}
 use Prim.Native.Nat.{ℕ, _≤_, _<_}
 use native.Mathlib.Omega.{arith}
@@ -11,7 +11,7 @@ use Rattle.table.specs.declared.Message.{Message}
 use Rattle.table.specs.declared.Table.{Table}
 use Rattle.table.specs.Views.{jobAt, machineAt, poolAt}
 use Rattle.table.specs.Parts.{AUTH, OBSOLETE, SCHEDULE, ACK, RESULT}
-use Rattle.lists.proofs.Cases.{byBool, and-left, and-right}
+use Rattle.lists.proofs.Cases.{byBool, and-left, and-right, and-no}
 use Rattle.lists.proofs.Count.{ind, count, and-le, count-le}
 use Rattle.protocol_preservation.proofs.Facts.{Facts}
 use Rattle.theorem_invariant.proofs.State.{Known, transfer, isTransfer, ackFrom, resultFrom, dead, has}
@@ -61,10 +61,6 @@ ack-other k j r p x e h = rw (e, h)
 pub result-other : (k j p : ℕ) (x : Message) → x .kind ≡ k → eqb k RESULT ≡ false → resultFrom j p x ≡ false
 unfolding resultFrom
 result-other k j p x e h = rw (e, h)
-
-and-no : (a b : Bool) → b ≡ false → a && b ≡ false
-and-no true b e = e
-and-no false b e = refl
 
 -- a message of another job
 pub transfer-not : (j r : ℕ) (x : Message) → (x .job ≡ j → ⊥) → transfer j r x ≡ false
