@@ -73,14 +73,6 @@ pub fn died(t: Table, a: u8) -> Table
     ensures { λ r. ⌜ r ≡ died t a ⌝ }
 {
     let mut u = protocol_pools::clear_pool(t, a as usize);
-    u.machines[a as usize] = Machine {
-        alive: 0,
-        reserved_job: 0,
-        reserved_replica: 0,
-        reserved_thief: 0,
-        running_job: 0,
-        running_replica: 0,
-        waits: 0,
-    };
+    u.machines[a as usize] = table::idle_machine(0);
     protocol_messages::drop_to(u, a)
 }

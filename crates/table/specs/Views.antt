@@ -45,9 +45,13 @@ use Rattle.table.specs.States.{openAfter}
 abbrev pub noJob : Job
 noJob = record { state = 0; replica = 0; moving = 0; holder = 0; thief = 0; price = 0 }
 
+-- a machine with no copy and no wait, alive (1) or not (0)
+abbrev pub idleMachine : ℕ → Machine
+idleMachine a =
+    record { alive = a; «reserved_job» = 0; «reserved_replica» = 0; «reserved_thief» = 0; «running_job» = 0; «running_replica» = 0; waits = 0 }
+
 abbrev pub noMachine : Machine
-noMachine =
-    record { alive = 0; «reserved_job» = 0; «reserved_replica» = 0; «reserved_thief» = 0; «running_job» = 0; «running_replica» = 0; waits = 0 }
+noMachine = idleMachine 0
 
 abbrev pub noMessage : Message
 noMessage = record { kind = 0; from = 0; to = 0; job = 0; replica = 0; thief = 0; price = 0 }

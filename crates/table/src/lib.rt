@@ -5,7 +5,7 @@
 ghost use mathlib.Core.Path.{_≡_};
 ghost use Prim.Native.Nat.{_≤_, _<_};
 ghost use Rattle.table.specs.States.{OPEN, opens, openAfter};
-ghost use Rattle.table.specs.Views.{refuse};
+ghost use Rattle.table.specs.Views.{idleMachine, refuse};
 use pricer::Bond;
 
 pub struct Job {
@@ -89,6 +89,21 @@ pub fn open_after(n: u8, was: u8, is: u8) -> u8
     ensures { λ r. ⌜ r ≡ openAfter n was is ⌝ }
 {
     n + opens(is) - opens(was)
+}
+
+// A machine with no copy and no wait, of which alive says whether it is.
+pub fn idle_machine(alive: u8) -> Machine
+    ensures { λ r. ⌜ r ≡ idleMachine alive ⌝ }
+{
+    Machine {
+        alive,
+        reserved_job: 0,
+        reserved_replica: 0,
+        reserved_thief: 0,
+        running_job: 0,
+        running_replica: 0,
+        waits: 0,
+    }
 }
 
 // The kinds of a message, named as in document 01.

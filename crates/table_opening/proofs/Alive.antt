@@ -11,8 +11,8 @@ use Rattle.lists.proofs.Scans.{tabulate-none, tabulate-more}
 use Rattle.pricer.specs.declared.Bond.{Bond}
 use Rattle.table.specs.declared.Machine.{Machine}
 use Rattle.table.specs.declared.Table.{Table}
-use Rattle.table.specs.Views.{noMachine, withMachine}
-use Rattle.table_opening.specs.Opening.{blank, idleMachine, machinesOf}
+use Rattle.table.specs.Views.{idleMachine, noMachine, withMachine}
+use Rattle.table_opening.specs.Opening.{blank, machinesOf}
 
 -- machine k comes alive
 abbrev pub revive : ℕ → Table → Table

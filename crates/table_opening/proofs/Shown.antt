@@ -15,10 +15,10 @@ use Rattle.book.specs.Book.{bookVerdict}
 use Rattle.pricer.specs.Bonds.{noBond}
 use Rattle.book.specs.Parts.{machineCount, entryCount, bondOf}
 use Rattle.book.proofs.Accepted.{bond-past}
-use Rattle.table.specs.Views.{noJob, noMachine, noMessage, pastBond, bondAt, jobAt, machineAt, poolAt, toldAt, flight}
+use Rattle.table.specs.Views.{noJob, idleMachine, noMachine, noMessage, pastBond, bondAt, jobAt, machineAt, poolAt, toldAt, flight}
 use Rattle.table.proofs.Views.{Sized}
 use Rattle.table.proofs.Messages.{Padded}
-use Rattle.table_opening.specs.Opening.{blank, idleMachine, bondsOf, machinesOf, freshOf, openOf}
+use Rattle.table_opening.specs.Opening.{blank, bondsOf, machinesOf, freshOf, openOf}
 use Rattle.table_opening.proofs.Counts.{machine-count-most}
 
 module _ (s : List ℕ) where

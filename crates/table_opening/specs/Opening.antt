@@ -12,7 +12,7 @@ use Rattle.book.specs.Parts.{machineCount, entryCount, bondOf}
 use Rattle.table.specs.declared.Machine.{Machine}
 use Rattle.table.specs.declared.Table.{Table}
 use Rattle.table.specs.declared.Answer.{Answer}
-use Rattle.table.specs.Views.{noJob, noMachine, noMessage, refuse}
+use Rattle.table.specs.Views.{noJob, idleMachine, noMachine, noMessage, refuse}
 
 -- "told of nothing, no job admitted, no copy, wait or message": with these counts, bonds and machines, and all else 0
 unfoldable pub blank : ℕ → ℕ → List Bond → List Machine → Table
@@ -29,11 +29,6 @@ blank m n bs ns =
       messages = replicate 128 noMessage;
       «open_jobs» = 0;
     }
-
--- a machine with no copy and no wait, alive (1) or not (0)
-abbrev pub idleMachine : ℕ → Machine
-idleMachine a =
-    record { alive = a; «reserved_job» = 0; «reserved_replica» = 0; «reserved_thief» = 0; «running_job» = 0; «running_replica» = 0; waits = 0 }
 
 -- "the terms of each entry"; past the last one there is no bond
 unfoldable pub bondsOf : List ℕ → List Bond

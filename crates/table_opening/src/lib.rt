@@ -4,29 +4,14 @@ ghost use Prim.Native.Nat.{_≤_};
 ghost use lib.ListN.{replicate};
 ghost use Rattle.lists.specs.Scan.{upTo};
 ghost use Rattle.pricer.specs.Bonds.{noBond};
-ghost use Rattle.table.specs.Views.{withMachine};
-ghost use Rattle.table_opening.specs.Opening.{blank, idleMachine, bondsOf, freshOf, noTable, openOf};
+ghost use Rattle.table.specs.Views.{idleMachine, withMachine};
+ghost use Rattle.table_opening.specs.Opening.{blank, bondsOf, freshOf, noTable, openOf};
 use pricer::Bond;
 use table::Answer;
 use table::Job;
 use table::Machine;
 use table::Message;
 use table::Table;
-
-// A machine with no copy and no wait, of which alive says whether it is.
-fn machine(alive: u8) -> Machine
-    ensures { λ r. ⌜ r ≡ idleMachine alive ⌝ }
-{
-    Machine {
-        alive,
-        reserved_job: 0,
-        reserved_replica: 0,
-        reserved_thief: 0,
-        running_job: 0,
-        running_replica: 0,
-        waits: 0,
-    }
-}
 
 fn no_bonds() -> [Bond; 64]
     ensures { λ r. ⌜ r ≡ replicate 64 noBond ⌝ }
@@ -86,7 +71,7 @@ fn blank(machine_count: u8, entries: u8, bonds: [Bond; 64], machines: [Machine; 
 fn no_table() -> Table
     ensures { λ r. ⌜ r ≡ noTable ⌝ }
 {
-    blank(0, 0, no_bonds(), [machine(0); 16])
+    blank(0, 0, no_bonds(), [table::idle_machine(0); 16])
 }
 
 // The first m machines are set alive. They are written into the table itself, by an index that runs: arrays that are only written at fixed places are
@@ -99,7 +84,7 @@ fn with_machines(t: Table, m: u8) -> Table
     let mut u = t;
     let mut i: usize = 0;
     while i < n {
-        u.machines[i] = machine(1);
+        u.machines[i] = table::idle_machine(1);
         i += 1;
     }
     u
@@ -111,7 +96,7 @@ pub fn fresh(s: &[u8]) -> Table
 {
     let m = book::machine_count(s);
     let n = book::entry_count(s);
-    let none = blank(m, n, bonds(s), [machine(0); 16]);
+    let none = blank(m, n, bonds(s), [table::idle_machine(0); 16]);
     with_machines(none, m)
 }
 

@@ -1,4 +1,4 @@
--- `event_admit_deliver_die::died` meets its contract. The equations of `clear_pool` and `drop_to`, and between them one store.
+-- `event_admit_deliver_die::died` meets its contract. The equations of `clear_pool` and `drop_to`, and between them one store, of a machine with nothing.
 -- Assumes nothing.
 use borrow.Author.Needs.{needs}
 use Rattle.lists.proofs.Rules.{tests}
@@ -10,11 +10,11 @@ use Rattle.event_admit_deliver_die.proofs.died.Tie as tie
 
 drop-to-requires : tie.Need-drop-to-requires
 unfolding parts
-drop-to-requires c κs = rw (c .clear-pool .ensures, used-clearPool) (search tests)
+drop-to-requires c κs = rw (c .before .clear-pool .ensures, used-clearPool) (search tests)
 
 returns : tie.Need-returns
 unfolding died parts
-returns c = rw (c .drop-to .ensures, c .before .clear-pool .ensures)
+returns c = rw (c .drop-to .ensures, c .before .idle-machine .ensures, c .before .before .clear-pool .ensures)
 
 pub died-spec : {M : Type 1} → statement M
-died-spec = tie.close (tie.spec (λ c κs. search needs) (λ c. search needs) (λ c. search needs) drop-to-requires returns)
+died-spec = tie.close (tie.spec (λ c κs. search needs) (λ c κs. search needs) (λ c. search needs) (λ c. search needs) drop-to-requires returns)

@@ -24,7 +24,7 @@ returns c =
     rw (
       c .with-machines .ensures,
       c .before .blank .ensures,
-      c .before .before .machine .ensures,
+      c .before .before .idle-machine .ensures,
       c .before .before .before .bonds .ensures,
       c .before .before .before .before .entry-count .ensures,
       m .ensures,

@@ -8,7 +8,7 @@ use Rattle.table_opening.proofs.no_table.Tie as tie
 
 returns : tie.Need-returns
 unfolding noTable
-returns c = rw (c .blank .ensures, c .before .machine .ensures, c .before .before .no-bonds .ensures)
+returns c = rw (c .blank .ensures, c .before .idle-machine .ensures, c .before .before .no-bonds .ensures)
 
 pub no-table-spec : {M : Type 1} → statement M
 no-table-spec = tie.close (tie.spec (λ c κs. search needs) (λ c κs. search needs) (λ c κs. search needs) returns)

@@ -24,7 +24,7 @@ loop-again : tie.Need-loop-again Inv-loop μ-loop
 unfolding parts
 loop-again c =
     let l = c .before .before .loop in
-    (l .inv .0, search tests, ap (λ (x : Machine). withMachine (l .u) (l .i) x) (c .machine .ensures) ∙ up-more revive _ _ _ (l .inv .2))
+    (l .inv .0, search tests, ap (λ (x : Machine). withMachine (l .u) (l .i) x) (c .idle-machine .ensures) ∙ up-more revive _ _ _ (l .inv .2))
 
 returns : tie.Need-returns Inv-loop μ-loop
 returns c = up-end revive _ _ _ _ (search tests) (search tests) (c .before .loop .inv .2)
