@@ -74,8 +74,8 @@ uint8_t rakhvide_check(const uint8_t *table, size_t table_length);
 /* One event, of which the first three bytes count, on bytes that may be anything: its number; the table changes exactly where it is 0. It is the
  * first of these that holds:
  *   9                            the bytes are no table, or a faulty one;
- *   10                           a code not 1 to 7, an unused b not 0, fewer than three bytes;
- *   11                           a machine or entry number too large;
+ *   10                           a code not 1 to 8, an unused b not 0, fewer than three bytes;
+ *   11                           a machine or entry number too large, by the table's current machine count; never for the a of a join;
  *   admit (1)    13              admitted already;
  *   steal (2)    12, 14, 24, 25  the thief is dead; is the victim; waits already; was told that the victim is dead;
  *                16              128 messages are in flight, and the victim lives;
@@ -83,7 +83,8 @@ uint8_t rakhvide_check(const uint8_t *table, size_t table_length);
  *   start (4)    12, 17, 18      the machine is dead; runs a copy already; has no copy of the job in its pool;
  *   done (5)     12, 19, 16      the machine is dead; runs nothing; 128 messages are in flight;
  *   die (6)      20, 12          the machine is the root; is dead already;
- *   notice (7)   12, 21, 22      the machine is dead; the other is alive; it was told already. */
+ *   notice (7)   12, 21, 22      the machine is dead; the other is alive; it was told already;
+ *   join (8)     26, 27          there are 16 machines already, the dead among them; a is not the next number. */
 uint8_t rakhvide_step(uint8_t *table, size_t table_length, const uint8_t *event, size_t event_length);
 
 /* How many jobs are open: admitted, and not priced. It is the number that the snapshot keeps, 0 to 64 where the table passes check 9, and one byte is

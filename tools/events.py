@@ -15,6 +15,7 @@ A line is an event; what follows a # is a comment, and empty lines are skipped:
     done 2            machine 2 has finished what it runs
     die 3             machine 3 dies
     notice 0 of 3     machine 0 is told that 3 is dead
+    join 4            machine 4 joins
     raw 9 9 9         any three bytes; as the last line one or two
 
 Words are lower case and a number is 0 to 255; whether the dispatcher accepts the event is for the program to say, by a number
@@ -31,7 +32,7 @@ import re
 
 import desk
 
-WORDS = {  # document 01, "Events are three bytes: code, a, b. An unused b is 0."
+WORDS = {  # document 01, "Events are three bytes: code, a, b. An unused b is 0."; 8 is document 02's, 2.6
     1: "admit ENTRY",
     2: "steal MACHINE from MACHINE",
     3: "deliver MACHINE to MACHINE",
@@ -39,6 +40,7 @@ WORDS = {  # document 01, "Events are three bytes: code, a, b. An unused b is 0.
     5: "done MACHINE",
     6: "die MACHINE",
     7: "notice MACHINE of MACHINE",
+    8: "join MACHINE",
 }
 RAW = "raw BYTE BYTE BYTE"
 NUMBERS = {

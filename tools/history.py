@@ -145,6 +145,8 @@ def note_of(event: bytes, table: model.Table, before: collections.abc.Iterable[C
     if name == "notice":
         again = [copy_label(job, table.jobs[job].replica) for job in table.again]
         return ", ".join(([f"{joined(again)} back on 0"] if again else []) + tail)
+    if name == "join":
+        return f"{len(table.machines)} machines now"
     return sending(table.log)
 
 
@@ -179,6 +181,7 @@ class History:
         self.table = model.Table(machines, entries)
         self.rows: list[Row] = []
         self.flights: list[Flight] = []
+        self.joins: dict[int, int] = {}  # machine to the row where it joins
         self.deaths: dict[int, int] = {}  # machine to the row where it dies
         self.notices: list[tuple[int, int, int]] = []  # row, machine, dead machine
         self.flying: dict[model.Message, Flight] = {}
@@ -208,6 +211,8 @@ class History:
             self.deaths[event[1]] = row
         if number == 0 and event[0] == 7:
             self.notices.append((row, event[1], event[2]))
+        if number == 0 and event[0] == 8:
+            self.joins[event[1]] = row
 
     def follow(self, row: int) -> None:
         """Brings the flights up to date by the table's log."""

@@ -1,5 +1,5 @@
 #!/usr/bin/python3
-"""Writes the data and the output of the programs that print a page: rakhvide, rakhvide_sample and eight more.
+"""Writes the data and the output of the programs that print a page: rakhvide, rakhvide_sample and nine more.
 
 To run, at the root of the repository: /usr/bin/python3 tools/make_sample.py
 It needs Python's standard library only (last run with Python 3.11).
@@ -9,8 +9,8 @@ Each is the same program on other data:
     rakhvide            the listing of document 01, "Examples", with the output printed there, and the last line
     rakhvide_sample     a book of 20 municipal and corporate bonds, a short one at a yield below 0 among them and some that pay yearly,
                         quarterly and monthly, and a list of events in which three machines steal from the root and from each other,
-                        one of them dies with bonds in hand, its bonds come back under the next replica number, and every bond is
-                        priced in the end; a few events of the list are refused
+                        a fourth joins them late, one of the three dies with bonds in hand, its bonds come back under the next
+                        replica number, and every bond is priced in the end; a few events of the list are refused
     test_no_files       neither book.bin nor events.bin
     test_refused_book   a book whose second entry has a wrong check digit and whose third has another form
     test_long_list      20,000 events, of which the last is refused, and two more that are not read
@@ -19,13 +19,14 @@ Each is the same program on other data:
     test_full_channel   128 messages in flight, and then steals from a dead machine and from living ones
     test_empty_book     a book without entries
     test_still_open     twelve bonds admitted, of which one is priced, and gets a second RESULT
+    test_joins          a book of two machines that grow to sixteen, two of which die, and joins that are refused
 
 The events of rakhvide_sample are chosen at random, with a fixed seed, by way of the table of model.py, which is documents 01 and 02
 in Python and shares nothing with the crates; its page is the model's, but the prices are decided by exact rational arithmetic whose
 every operation is rounded once to the nearest binary64, ties to even. The other pages are written here by hand from document 01's
-text, "The program's page", and those of test_turned_back and test_full_channel from document 02's, 2.5 and 2.10; the last line after an
-accepted book, and what test_empty_book and test_still_open are about, is that of 2.4. The script fails where a price or a page of the
-model differs.
+text, "The program's page", and those of test_turned_back, test_full_channel and test_joins from document 02's, 2.5, 2.10 and 2.6; the last
+line after an accepted book, and what test_empty_book and test_still_open are about, is that of 2.4. The script fails where a price or a
+page of the model differs.
 
 The bonds are invented; their identifiers have the form and the check digit of ISO 6166. The result depends on nothing else.
 """
@@ -76,7 +77,7 @@ SAMPLE_BONDS = [
     entry("XSCRP005670", ZERO, 9, 0.0, 0.0349, 1),
 ]
 SAMPLE_MACHINES = 4
-DYING = 2
+JOINING, DYING = SAMPLE_MACHINES, 2
 
 
 class Program(typing.NamedTuple):
@@ -200,6 +201,54 @@ def still_open() -> Program:
     return answered("test_still_open", books.book_of(3, bonds), listed, entries + "open 11\n")
 
 
+def joins() -> Program:
+    """A join is judged by 10, then by 26, there are 16 already, and 27, a is not the next number; every other event by 11, against the count as
+    it is then. Who joins is told of no death, and a dead machine's number is not free."""
+    listed = [
+        (0, "admit 0"), (0, "admit 1"), (0, "admit 2"),
+        (11, "steal 2 from 0"), (11, "steal 1 from 2"), (11, "deliver 2 to 0"), (11, "notice 0 of 2"),  # there are 0 and 1
+        (10, "raw 8 2 1"),  # unused b
+        (10, "raw 9 2 0"),
+        (27, "join 3"),  # a gap
+        (27, "join 1"), (27, "join 0"),  # there already
+        (27, "join 255"),  # not 11
+        (0, "join 2"),
+        (27, "join 2"),
+        (11, "steal 3 from 0"),  # there are 0 to 2
+        *stolen(2), (0, "start 2 job 0"), (0, "done 2"), (0, "deliver 2 to 0"),  # the first to join prices bond 0
+        (0, "die 1"),
+        (27, "join 1"),  # dead, and its number is not free
+        (0, "notice 2 of 1"),
+        (25, "steal 2 from 1"),
+        (0, "join 3"),
+        (0, "steal 3 from 1"),  # it was not told, and waits
+        (24, "steal 3 from 0"),
+        (0, "notice 3 of 1"),
+        (25, "steal 3 from 1"),
+        *stolen(3), (0, "start 3 job 1"), (0, "die 3"),  # with bond 1 in hand
+        (27, "join 3"),
+        (0, "notice 0 of 3"),  # bond 1 is back on the root, replica 2
+        *((0, f"join {machine}") for machine in range(4, 16)),
+        (26, "join 16"),  # two of the sixteen are dead
+        (26, "join 3"), (26, "join 255"),  # not the next number either: 26 comes first
+        (10, "raw 8 16 1"),  # unused b: 10 comes first
+        (11, "steal 16 from 0"),
+        (0, "steal 15 from 3"), (0, "notice 15 of 3"), (25, "steal 15 from 3"), (0, "steal 15 from 1"), (0, "notice 15 of 1"),
+        *stolen(15), (0, "start 15 job 1"), (0, "done 15"), (0, "deliver 15 to 0"),  # the last to join prices bond 1
+        (10, "raw 8 16"),  # two bytes
+    ]
+    bonds = [entry(f"ZZ{number:09}", FIXED, 2, 4.0, 0.0) for number in range(1, 4)]
+    entries = ("ZZ0000000016 priced 405A000000000000 replica 1\nZZ0000000024 priced 405A000000000000 replica 2\n"
+               "ZZ0000000032 open replica 1\n")
+    return answered("test_joins", books.book_of(2, bonds), listed, entries + "open 1\n")
+
+
+def stolen(thief: int) -> list[tuple[int, str]]:
+    """It steals a bond from the root: FISH, REQ, AUTH, SCHEDULE, ACK."""
+    steal = [f"steal {thief} from 0", f"deliver {thief} to 0", "deliver 0 to 0", "deliver 0 to 0", f"deliver 0 to {thief}", f"deliver {thief} to 0"]
+    return [(0, event) for event in steal]
+
+
 def answered(crate: str, book: bytes, listed: list[tuple[int, str]], rest: str) -> Program:
     """A list of events, each with its number, and the rest of the page: the lines of the entries and the last line."""
     refused = "".join(f"event {place} refused {number}\n" for place, (number, _) in enumerate(listed, 1) if number)
@@ -226,8 +275,18 @@ def exact_price(bond: Entry) -> float:
     return p
 
 
+def priced(table: model.Table) -> int:
+    return sum(job.state == model.PRICED for job in table.jobs)
+
+
+def holds(machine: model.Machine) -> bool:
+    """Whether it has a bond to work on."""
+    return bool(machine.pool) or machine.running is not None
+
+
 class Close:
-    """Events until every bond is priced. Machine DYING dies once it holds bonds, and the living are told of it one after another."""
+    """Events until every bond is priced. Machine JOINING joins once half of them are. Machine DYING dies after that, once both hold bonds,
+    and the living are told of it one after another."""
 
     def __init__(self, rng: random.Random) -> None:
         self.rng, self.events = rng, b""
@@ -248,20 +307,24 @@ class Close:
         self.table.step(bytes(event))
 
     def go_on(self) -> None:
-        dying = self.table.machines[DYING]
-        if dying.pool and dying.running is not None:
+        machines, dying = self.table.machines, self.table.machines[DYING]
+        if len(machines) == JOINING and 2 * priced(self.table) >= len(SAMPLE_BONDS):
+            self.happens(8, JOINING + 2, 0)  # not the next number
+            self.happens(8, JOINING, 0)
+            self.happens(8, JOINING, 0)  # there already
+        elif len(machines) > JOINING and holds(machines[JOINING]) and dying.pool and dying.running is not None:
             self.happens(6, DYING, 0)
             self.happens(2, DYING, model.ROOT)  # a dead thief
         else:
             self.happens(*self.rng.choice(self.choices()))
 
     def choices(self) -> list[tuple[int, int, int]]:
-        """What may happen next; the root starts bonds seldom, and work takes a while."""
+        """What may happen next; the root starts bonds seldom, work takes a while, and most thieves ask the root."""
         rng, machines = self.rng, self.table.machines
         living = [(m, machine) for m, machine in enumerate(machines) if machine.alive]
         found = [(3, m.sender, m.to) for m in self.table.flight]
         found += [(2, a, b) for a, thief in living for b in range(len(machines))
-                  if a != model.ROOT and a != b and thief.waits is None and b not in thief.told]
+                  if a != model.ROOT and a != b and thief.waits is None and b not in thief.told and (b == model.ROOT or rng.random() < 0.3)]
         found += [(4, m, min(machine.pool)) for m, machine in living
                   if machine.pool and machine.running is None and (m != model.ROOT or rng.random() < 0.05)]
         found += [(5, m, 0) for m, machine in living if machine.running is not None and rng.random() < 0.25]
@@ -273,11 +336,33 @@ def sample_close() -> Program:
     for bond in SAMPLE_BONDS:
         same = model.price_bits(model.price_of(bond)) == model.price_bits(exact_price(bond))
         fail_unless(same, f"the model has another price of {bond.identifier.decode('ascii')}")
-    book, events = books.book_of(SAMPLE_MACHINES, SAMPLE_BONDS), Close(random.Random(20)).events
+    book, events = books.book_of(SAMPLE_MACHINES, SAMPLE_BONDS), Close(random.Random(428)).events
     page = model.page(book, events)
-    priced = page.count(" priced ") == len(SAMPLE_BONDS) and page.endswith("\nopen 0\n")
-    fail_unless(priced and " replica 2\n" in page, "a bond is not priced, or none came back")
+    all_priced = page.count(" priced ") == len(SAMPLE_BONDS) and page.endswith("\nopen 0\n")
+    fail_unless(all_priced and " replica 2\n" in page, "a bond is not priced, or none came back")
+    check_story(events)
     return Program("rakhvide_sample", book, events, page)
+
+
+def check_story(events: bytes) -> None:
+    """A machine joins late, and works; then another dies with bonds in hand, which are issued anew, and the one that joined prices some."""
+    table = model.Table(SAMPLE_MACHINES, SAMPLE_BONDS)
+    story: list[str] = []
+    results: list[int] = []  # the replica numbers of the bonds that the machine prices
+    for event in lists.events_of(events):
+        before, dying = priced(table), table.machines[DYING]
+        if table.step(event)[0]:
+            continue
+        if event[0] == 8:
+            story.append("joins")
+            fail_unless(2 * before >= len(SAMPLE_BONDS), "the machine joins early")
+        if event[0] == 6:
+            story.append("dies")
+            fail_unless(bool(dying.pool) and dying.running is not None and holds(table.machines[JOINING]), "no bond in hand at the death")
+        story += ["issued anew" for _ in table.again]
+        results += [m.replica for word, m in table.log if word == "priced" and m.sender == JOINING]
+    fail_unless(story == ["joins", "dies", "issued anew", "issued anew"], f"the close has another story: {story}")
+    fail_unless({1, 2} <= set(results), "the machine that joined does not price a bond, and one that was issued anew")
 
 
 # The files.
@@ -297,7 +382,7 @@ def write(program: Program) -> None:
 
 
 def main() -> None:
-    by_hand = listing, no_files, refused_book, long_list, broken_event, turned_back, full_channel, empty_book, still_open
+    by_hand = listing, no_files, refused_book, long_list, broken_event, turned_back, full_channel, empty_book, still_open, joins
     for make in (*by_hand, sample_close):
         write(make())
 

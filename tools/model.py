@@ -1,5 +1,5 @@
 #!/usr/bin/python3
-"""The dispatcher in Python: the table, its seven events, and the page.
+"""The dispatcher in Python: the table, its eight events, and the page.
 
     python3 tools/model.py FOLDER [--decimal]
 
@@ -31,7 +31,7 @@ import book_bytes as books
 import events as lists
 
 ROOT = 0
-MOST_IN_FLIGHT = 128
+MOST_MACHINES, MOST_IN_FLIGHT = 16, 128
 NOT_ADMITTED, OPEN, PRICED = "not admitted", "open", "priced"
 
 
@@ -84,7 +84,8 @@ def price_of(entry: books.Entry) -> float:
 
 # "Where each refusal is checked": the rows of the events, each from left to right, as number, condition and test. 24 and 25 are
 # document 02's, 2.5: "24, thief already waits, after 14; 25, thief was told the victim is dead, after 24". That a steal gets 16
-# only where its victim lives is 2.10: "A message to a dead machine takes no place", and this line "now goes first".
+# only where its victim lives is 2.10: "A message to a dead machine takes no place", and this line "now goes first". The row of a
+# join is 2.6: "26, there are 16 already; 27, a is not the next number; in that order"; dead machines count.
 Refusal = tuple[int, str, collections.abc.Callable[["Table", int, int], bool]]
 REFUSALS: dict[str, list[Refusal]] = {
     "admit": [
@@ -112,9 +113,12 @@ REFUSALS: dict[str, list[Refusal]] = {
         (12, "the machine is dead", lambda t, a, b: not t.machines[a].alive),
         (21, "the other is alive", lambda t, a, b: t.machines[b].alive),
         (22, "it was told already", lambda t, a, b: b in t.machines[a].told)],
+    "join": [
+        (26, "there are 16 machines already", lambda t, a, b: len(t.machines) >= MOST_MACHINES),
+        (27, "it is not the next number", lambda t, a, b: a != len(t.machines))],
 }
-EVENTS = ["admit", "steal", "deliver", "start", "done", "die", "notice"]  # codes 1 to 7
-WITHOUT_B = ["admit", "done", "die"]
+EVENTS = ["admit", "steal", "deliver", "start", "done", "die", "notice", "join"]  # codes 1 to 8
+WITHOUT_B = ["admit", "done", "die", "join"]
 
 
 class Table:
@@ -144,14 +148,15 @@ class Table:
         if len(event) < 3:
             return 10, "fewer than three bytes"
         code, a, b = event[:3]
-        if not 1 <= code <= 7:
-            return 10, "code not 1 to 7"
+        if not 1 <= code <= 8:
+            return 10, "code not 1 to 8"
         name = EVENTS[code - 1]
         if name in WITHOUT_B and b != 0:
             return 10, "unused b not 0"
+        # "11 is judged against the current count, except that Join's own a is judged only by the new numbers." (document 02, 2.6)
         counts = {"entry": len(self.jobs), "machine": len(self.machines)}
         first, second = "entry" if name == "admit" else "machine", "entry" if name == "start" else "machine"
-        if a >= counts[first]:
+        if name != "join" and a >= counts[first]:
             return 11, f"no {first} {a}"
         if name not in WITHOUT_B and b >= counts[second]:
             return 11, f"no {second} {b}"
@@ -181,7 +186,7 @@ class Table:
         self.log += [("dropped", m) for m in self.flight if dropped(m)]
         self.flight = [m for m in self.flight if not dropped(m)]
 
-    # The seven events.
+    # The eight events.
 
     def admit(self, a: int, _: int) -> None:
         self.jobs[a] = Job(OPEN, 1, (ROOT,))
@@ -230,6 +235,11 @@ class Table:
                 job.replica, job.place = job.replica + 1, (ROOT,)
                 self.machines[ROOT].add(number, job.replica)
                 self.again.append(number)
+
+    def join(self, a: int, _: int) -> None:
+        """Machine a is there, alive, with empty pool and told of no death."""
+        assert a == len(self.machines)  # otherwise it is refused 27
+        self.machines.append(Machine())
 
     # Handling, by kind: the message, and the machine that it came to.
 

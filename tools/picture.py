@@ -10,9 +10,10 @@ it does in the program, and is named on standard error. Of a list the first 20,0
 warns. It needs Python 3.10 or later, and its standard library only.
 
 Time goes down, a row for each event, with how many bonds are open after it; a machine is a lane, and the line in it is the
-machine's life. Left of the line stand the messages that come to the machine, each at the end of its arrow; right of it are
-the copies of the bonds that it holds, each a bar with the job's number. What happened is told by model.py (by way of
-history.py). What the number of a refusal means is in docs/PROTOCOL.md, "The numbers".
+machine's life. The lane of a machine that joins begins where it joins. Left of the line stand the messages that come to the
+machine, each at the end of its arrow; right of it are the copies of the bonds that it holds, each a bar with the job's number.
+What happened is told by model.py (by way of history.py). What the number of a refusal means is in docs/PROTOCOL.md, "The
+numbers".
 
 The exit status is 0 where the picture is that of an accepted book and a list of events; 1 where one of the two files cannot be
 read (of a book without events.bin the picture is written all the same), or the picture cannot be written, or the title is
@@ -122,6 +123,8 @@ class Layout:
 
     def gather(self) -> None:
         history = self.history
+        for machine, row in history.joins.items():
+            self.put(row, machine, Pill("joins", DARK, about=f"machine {machine} joins at event {row + 1}"))
         for machine, row in history.deaths.items():
             self.put(row, machine, Pill("dies", DARK, about=f"machine {machine} dies at event {row + 1}"))
         for row, machine, dead in history.notices:
@@ -169,6 +172,15 @@ class Layout:
         """The middle of a row's first line; the bottom for what lasts."""
         return self.tops[row] + LINE / 2 if row < len(self.history.rows) else self.bottom
 
+    def top(self, lane: Lane) -> float:
+        """Where the lane begins: at its name, or at the row where its machine joins."""
+        joins = self.history.joins
+        return self.tops[joins[lane.machine]] if lane.machine in joins else self.heads[0]
+
+    def edge(self, row: int) -> float:
+        """Where a row ends: the lanes of machines that are yet to join are right of all others."""
+        return max(lane.end for lane in self.lanes if self.top(lane) <= self.tops[row])
+
 
 # The drawing, from what lies below to what lies above.
 
@@ -176,17 +188,18 @@ class Layout:
 def ground(layout: Layout) -> Elements:
     """Lanes, rows, and the shade of refused events and of dead machines."""
     for lane in layout.lanes:
-        yield rect(lane.x, layout.heads[0], lane.end - lane.x, layout.bottom - layout.heads[0], LANE if lane.machine % 2 == 0 else "#ffffff")
+        top = layout.top(lane)
+        yield rect(lane.x, top, lane.end - lane.x, layout.bottom - top, LANE if lane.machine % 2 == 0 else "#ffffff")
     for machine, row in layout.history.deaths.items():
         lane = layout.lanes[machine]
         yield rect(lane.x, layout.y(row), lane.end - lane.x, layout.bottom - layout.y(row), "url(#dead)")
     for row, event in enumerate(layout.history.rows):
-        y = layout.tops[row]
+        y, edge = layout.tops[row], layout.edge(row)
         if event.number:
-            yield rect(MARGIN, y, layout.right - MARGIN, LINE, RED_TINT, fill_opacity=0.7)
-        yield line(MARGIN, y, layout.right, y, FAINT, stroke_width=1 if row % 10 == 0 else 0.4)
-    for lane in layout.lanes:
-        yield line(lane.x, layout.heads[0], lane.x, layout.bottom, FAINT)
+            yield rect(MARGIN, y, edge - MARGIN, LINE, RED_TINT, fill_opacity=0.7)
+        yield line(MARGIN, y, edge, y, FAINT, stroke_width=1 if row % 10 == 0 else 0.4)
+    for before, lane in zip([layout.lanes[0], *layout.lanes], layout.lanes):
+        yield line(lane.x, layout.top(before), lane.x, layout.bottom, FAINT)  # the lane before it ends here too
     yield line(MARGIN, layout.bottom, layout.right, layout.bottom, SOFT)
 
 
@@ -198,23 +211,29 @@ def heads(layout: Layout) -> Elements:
         yield text(OPEN_AT, y + HEAD / 2, "open", 11, "#ffffff", font_weight="bold", text_anchor="middle")
         for lane in layout.lanes:
             died = layout.history.deaths.get(lane.machine)
-            dead = died is not None and layout.tops[died] < y
-            name = f"machine {lane.machine}" + (" root" if lane.machine == model.ROOT else " dead" if dead else "")
-            yield text(lane.line, y + HEAD / 2, name, 11, "#b8bfc5" if dead else "#ffffff", font_weight="bold", text_anchor="middle")
+            dead, later = died is not None and layout.tops[died] < y, layout.top(lane) > y + HEAD
+            state = " root" if lane.machine == model.ROOT else " dead" if dead else " later" if later else ""
+            yield text(lane.line, y + HEAD / 2, f"machine {lane.machine}{state}", 11, "#b8bfc5" if dead or later else "#ffffff",
+                       font_weight="bold", text_anchor="middle")
 
 
 def lifelines(layout: Layout) -> Elements:
+    history = layout.history
     for lane in layout.lanes:
+        died = history.deaths.get(lane.machine, len(history.rows))
         for y, until in zip(layout.heads, [*layout.heads[1:], layout.bottom]):
-            died = layout.history.deaths.get(lane.machine, len(layout.history.rows))
-            if layout.y(died) > y + HEAD:
-                yield line(lane.line, y + HEAD, lane.line, min(until, layout.y(died)), DARK, stroke_width=2.5)
-    for wait in layout.history.waits:
+            start, end = max(y + HEAD, layout.top(lane) + LINE / 2), min(until, layout.y(died))  # below a name, or from the middle of a row on
+            if start < end:
+                yield line(lane.line, start, lane.line, end, DARK, stroke_width=2.5)
+    for wait in history.waits:
         x, y, end = layout.lanes[wait.machine].line, layout.y(wait.start), layout.y(wait.end)
         about = f"machine {wait.machine} waits on {wait.victim} from event {wait.start + 1}"
         yield line(x, y, x, end, PAPER, stroke_width=3)
         yield line(x, y, x, end, WAITING, about, stroke_width=3, stroke_dasharray="2 2.5")
-    for machine, row in layout.history.deaths.items():
+    for machine, row in history.joins.items():
+        x, y = layout.lanes[machine].line, layout.y(row)
+        yield line(x - 6, y, x + 6, y, DARK, stroke_width=3)
+    for machine, row in history.deaths.items():
         yield cross(layout.lanes[machine].line, layout.y(row), 5, DARK, 3)
 
 
@@ -300,7 +319,7 @@ def summary(history: runs.History) -> str:
     return "   \u00b7   ".join([
         f"{desk.plural(len(history.rows), 'event')}, {refused} refused",
         f"{states.count(model.PRICED)} priced, {history.table.open_jobs} open, {states.count(model.NOT_ADMITTED)} not admitted",
-        f"{desk.plural(len(history.deaths), 'death')}, {desk.plural(len(history.notices), 'notice')}",
+        f"{desk.plural(len(history.joins), 'join')}, {desk.plural(len(history.deaths), 'death')}, {desk.plural(len(history.notices), 'notice')}",
         f"{desk.plural(len(fates), 'message')}: {fates.count(runs.DELIVERED)} delivered, {fates.count(runs.DROPPED)} dropped, "
         f"{fates.count(runs.LOST)} lost, {fates.count(runs.IN_FLIGHT)} in flight"])
 
@@ -326,6 +345,10 @@ def life_sign(colour: str, dashes: str | None, ends: bool = False) -> Sign:
     return 10, draw
 
 
+def join_sign() -> Sign:
+    return 12, lambda x, y: [line(x, y - 4, x + 12, y - 4, DARK, stroke_width=3), line(x + 6, y - 4, x + 6, y + 8, DARK, stroke_width=2.8)]
+
+
 def arrow_sign() -> Sign:
     colour = KINDS["FISH"]
     return 40, lambda x, y: [circle(x + 3, y - 4, 2.6, colour), triangle(x + 38, y + 4, 1, colour),
@@ -341,6 +364,7 @@ def legend_items() -> list[tuple[Sign, str]]:
         ((22, lambda x, y: [text(x, y, "3/2", 10.5)]), "job 3, replica 2 (1 is not written)"),
         (life_sign(DARK, None), "alive"),
         (life_sign(WAITING, "2 2.5"), "waits on a victim"),
+        (join_sign(), "joins"),
         (life_sign(DARK, None, True), "dies"),
         (arrow_sign(), "message from sending to delivery"),
         (pill_sign("REQ 3", KINDS["REQ"]), "delivered"),
@@ -422,11 +446,18 @@ def check_title(title: str) -> None:
         raise desk.Stop(f"character {found.start() + 1} of the title is {desk.named(found[0])}, which XML does not have")
 
 
+def title_of(history: runs.History) -> str:
+    """The title where none is given."""
+    machines, joins = len(history.table.machines), len(history.joins)
+    later = f", {joins} of which join{'s' if joins == 1 else ''} later" if joins else ""
+    return f"{desk.plural(len(history.table.entries), 'bond')} on {desk.plural(machines, 'machine')}{later}"
+
+
 def picture(book: bytes, events: bytes, title: str | None = None) -> Element:
     """The picture of a run over an accepted book."""
     machines, entries = books.parts(book)
     history = runs.History(machines, entries, events)
-    return drawn(history, title or f"{desk.plural(len(entries), 'bond')} on {desk.plural(machines, 'machine')}")
+    return drawn(history, title or title_of(history))
 
 
 def warn_of_size(root: Element) -> None:

@@ -39,7 +39,7 @@ WRITER_FILES = sorted((CRATES / "test_book" / "data").glob("writer_*.bin"))
 SAMPLE = ROOT / "samples" / "close"
 FIRST = ROOT / "samples" / "first"
 PICTURES = {  # those of docs/, with their titles
-    SAMPLE: ("sample-close.svg", "The sample close: twenty bonds on four machines, one of which dies"),
+    SAMPLE: ("sample-close.svg", "The sample close: twenty bonds on four machines; a fifth joins, and one dies"),
     FIRST: ("first-run.svg", "A first run: three bonds on three machines"),
 }
 
@@ -73,9 +73,11 @@ ZZ0000000016 priced 405A000000000000 replica 1
 ZZ0000000024 not admitted
 open 0
 """
+SIXTEEN = [f"join {machine}" for machine in range(3, 16)]  # of three machines
 # Number, event, the events before it; three machines, two entries.
 REFUSALS = [
-    *((10, event) for event in ("raw 0 0 0", "raw 8 0 0", "raw 255 9 9", "raw 1 0 1", "raw 5 0 1", "raw 6 1 9", "raw 1", "raw 1 0", "raw 1 9 1")),
+    *((10, event) for event in ("raw 0 0 0", "raw 9 0 0", "raw 255 9 9", "raw 1 0 1", "raw 5 0 1", "raw 6 1 9", "raw 1", "raw 1 0", "raw 1 9 1",
+                                "raw 8", "raw 8 3", "raw 8 3 1", "raw 8 3 255", "raw 8 255 1")),
     *((11, event) for event in ("admit 2", "steal 3 from 0", "steal 0 from 3", "deliver 3 to 0", "deliver 0 to 3", "start 3 job 0", "start 0 job 2",
                                 "done 3", "die 3", "notice 3 of 0", "notice 0 of 3")),
     (13, "admit 0", "admit 0"),
@@ -87,6 +89,13 @@ REFUSALS = [
     (12, "done 1", "die 1"), (19, "done 0", "admit 0"),
     (20, "die 0"), (12, "die 1", "die 1"),
     (12, "notice 1 of 1", "die 1"), (21, "notice 0 of 0"), (21, "notice 0 of 1", "die 2"), (22, "notice 0 of 1", "die 1", "notice 0 of 1"),
+    *((27, f"join {machine}") for machine in (0, 2, 4, 16, 255)), (27, "join 3", "join 3"), (27, "join 1", "die 1"), (27, "join 3", "join 3", "die 3"),
+    *((26, f"join {machine}", *SIXTEEN) for machine in (0, 15, 16, 17, 255)), (26, "join 16", "die 1", *SIXTEEN, "die 15"), (26, "join 1", "die 1", *SIXTEEN),
+    (10, "raw 8 16 1", *SIXTEEN), (10, "raw 8 16", *SIXTEEN),
+    *((11, event, "join 3") for event in ("steal 4 from 0", "steal 0 from 4", "deliver 4 to 0", "start 4 job 0", "done 4", "die 4", "notice 0 of 4")),
+    (11, "steal 16 from 0", *SIXTEEN), (11, "steal 15 from 16", *SIXTEEN),
+    (15, "deliver 3 to 0", "join 3"), (18, "start 3 job 0", "admit 0", "join 3"), (19, "done 3", "join 3"), (21, "notice 3 of 0", "join 3"),
+    (25, "steal 3 from 1", "die 1", "join 3", "notice 3 of 1"),
 ]
 FIRST_PAGE = """event 24 refused 20
 US0378331005 priced 4059813F447C3D83 replica 2
@@ -133,7 +142,7 @@ def entries_of(terms):
 
 
 def random_run(seed, machines, entries, count):
-    """A book and events most of which are accepted; deaths and broken events among them."""
+    """A book and events most of which are accepted; deaths, joins and broken events among them."""
     rng = random.Random(seed)
     bonds = entries_of([(book_bytes.FIXED, rng.randint(1, 240), rng.choice([0, 1, 2, 4, 12]), 100 * rng.random(), rng.uniform(-0.5, 1))
                         for _ in range(entries)])
@@ -157,12 +166,14 @@ def random_event(rng, table):
     if table.flight and rng.random() < 0.6:
         message = rng.choice(table.flight)
         return bytes([3, message.sender, message.to])
-    code = rng.choice([1, 1, 2, 2, 2, 4, 4, 5, 5, 6, 7, rng.randrange(9)])
+    code = rng.choice([1, 1, 2, 2, 2, 4, 4, 5, 5, 6, 7, 8, rng.randrange(10)])
     a, b = rng.randrange(len(table.machines)), rng.randrange(len(table.machines))
     if code == 1:
         return bytes([1, rng.randrange(len(table.jobs) + 1), 0])
     if code == 4:
         return bytes([4, a, rng.choice(list(table.machines[a].pool) or [b])])
+    if code == 8:
+        return bytes([8, rng.choice([len(table.machines), a, rng.randrange(256)]), 0])
     return bytes([code, a, 0 if code in (5, 6) else b])
 
 
@@ -743,8 +754,8 @@ class Adding(Folder):
 
 class Events(Folder):
     def test_words(self):
-        text = "admit 0\nsteal 2 from 0\ndeliver 1 to 0\nstart 2 job 0\ndone 2\ndie 3\nnotice 0 of 3\nraw 9 9 9\nraw 1 2\n"
-        data = bytes([1, 0, 0, 2, 2, 0, 3, 1, 0, 4, 2, 0, 5, 2, 0, 6, 3, 0, 7, 0, 3, 9, 9, 9, 1, 2])
+        text = "admit 0\nsteal 2 from 0\ndeliver 1 to 0\nstart 2 job 0\ndone 2\ndie 3\nnotice 0 of 3\njoin 4\nraw 9 9 9\nraw 1 2\n"
+        data = bytes([1, 0, 0, 2, 2, 0, 3, 1, 0, 4, 2, 0, 5, 2, 0, 6, 3, 0, 7, 0, 3, 8, 4, 0, 9, 9, 9, 1, 2])
         self.assertEqual(events.make(text), data)
         self.assertEqual(events.show(data), text)
         self.assertEqual(events.make("  admit   0 # one\r\n\r\n#none\n\tdone 2"), bytes([1, 0, 0, 5, 2, 0]))
@@ -760,9 +771,18 @@ class Events(Folder):
         data = b"".join(bytes([code, a, b]) for code in range(10) for a in (0, 1, 255) for b in (0, 1, 255))
         self.assertEqual(events.make(events.show(data)), data)
 
+    def test_joins(self):
+        """Document 02, 2.6: code 8, and b is unused: with another b than 0 no word stands for it."""
+        for data, text in ((bytes([8, 4, 0]), "join 4\n"), (bytes([8, 255, 0]), "join 255\n"), (bytes([8, 1, 5]), "raw 8 1 5\n"),
+                           (bytes([8, 1]), "raw 8 1\n")):
+            self.assertEqual((events.show(data), events.make(text)), (text, data))
+        self.assertEqual(events.make("raw 8 4 0\n"), bytes([8, 4, 0]))
+        self.assertIn("    join 4 ", tool("events.py", "--help").stdout.decode())
+
     def test_faults(self):
         for line in ("admit", "admit x", "admit -1", "admit 256", "admit 0 0", "steal 1 0", "steal 1 to 0", "Admit 0", "raw", "raw 256", "raw 1 2 3 4",
-                     "raw 1", "die", "notice 1 of", "admit 99999999999999999999", "admit \u0661", "0 0 0"):
+                     "raw 1", "die", "notice 1 of", "join", "join 4 0", "join 256", "join machine 4", "admit 99999999999999999999", "admit \u0661",
+                     "0 0 0"):
             path = self.file("e.txt", "admit 0\n\n" + line + "\nadmit 1\n")
             self.assert_message(tool("events.py", "make", path, self.folder / "events.bin"), "line 3", "not written")
             self.assertFalse((self.folder / "events.bin").exists())
@@ -780,7 +800,9 @@ class Events(Folder):
                 ("ADMIT 256", "words are lower case, and '256' is above 255"), ("steal 256 FROM 0", "words are lower case, and '256' is above 255"),
                 ("RAW 1 2", "words are lower case; did you mean raw 1 2?"),
                 ("STEAL 1", "words are lower case, and it is written steal MACHINE from MACHINE"),
-                ("stael 1 from 0", "'stael' is none of admit, steal")):
+                ("join four", "'four' is not a machine number 0 to 255"), ("Join 4", "words are lower case; did you mean join 4?"),
+                ("join 4 5", "it is written join MACHINE"),
+                ("stael 1 from 0", "'stael' is none of admit, steal, deliver, start, done, die, notice, join, raw")):
             with self.assertRaises(desk.Stop) as found:
                 events.make(line)
             self.assertIn("line 1: ", str(found.exception))
@@ -829,7 +851,7 @@ class Model(Folder):
     def test_programs(self):
         """The pages that the programs must print; test_no_files has no folder of data."""
         for crate, status in (("rakhvide", 0), ("rakhvide_sample", 0), ("test_refused_book", 3), ("test_long_list", 0), ("test_broken_event", 0),
-                              ("test_turned_back", 0), ("test_full_channel", 0), ("test_empty_book", 0), ("test_still_open", 0)):
+                              ("test_turned_back", 0), ("test_full_channel", 0), ("test_empty_book", 0), ("test_still_open", 0), ("test_joins", 0)):
             done = tool("model.py", CRATES / crate / "data")
             self.assertEqual((done.stdout, done.returncode), ((CRATES / crate / "stdout").read_bytes(), status))
             self.assertEqual(b"events.bin has 20002 events: the first 20000 are read\n" in done.stderr, crate == "test_long_list")
@@ -916,6 +938,34 @@ class Model(Folder):
             table = self.table("".join(line + "\n" for line in before))
             self.assertEqual(table.step(events.make(last))[0], number, (before, last))
 
+    def test_the_numbers_of_a_join(self):
+        """Document 02, 2.6: of every machine count and every a; dead machines count, and 10 comes before."""
+        for count in range(2, 17):
+            for dead in ("", "die 1\n"):
+                table = self.table(dead, count)
+                for a in range(256):
+                    self.assertEqual(table.refusal(bytes([8, a, 0]))[0], 26 if count == 16 else 0 if a == count else 27, (count, a))
+                    self.assertEqual(table.refusal(bytes([8, a, 1]))[0], 10)
+
+    def test_a_machine_that_joins(self):
+        """It is "alive, with empty pool and told of no death", and all else is as it was."""
+        for text in ("", "admit 0\nadmit 1\nsteal 1 from 0\nsteal 2 from 1\ndeliver 1 to 0\nstart 0 job 1\ndie 2\nnotice 0 of 2\n"):
+            table, grown = self.table(text), self.table(text)
+            self.assertEqual(grown.step(bytes([8, 3, 0])), (0, ""))
+            self.assertEqual((len(grown.machines), grown.machines[3]), (4, model.Machine()))
+            grown.machines.pop()
+            self.assertEqual(self.content(grown), self.content(table))
+
+    def test_a_machine_that_joins_is_like_any_other(self):
+        """It is told of a death from before, steals, is stolen from, and dies with a bond in hand, which another that joined prices."""
+        stolen = "steal {0} from {1}\ndeliver {0} to {1}\ndeliver {1} to 0\ndeliver 0 to {1}\ndeliver {1} to {0}\ndeliver {0} to 0\n"
+        table = self.table("die 1\njoin 3\nsteal 3 from 1\nnotice 3 of 1\nadmit 0\njoin 4\n" + stolen.format(3, 0) + stolen.format(4, 3))
+        self.assertEqual((table.jobs[0].place, table.machines[4].pool, table.machines[3].told, table.machines[4].told), ((4,), {0: 1}, {1}, set()))
+        rest = "start 4 job 0\ndie 4\njoin 5\nnotice 0 of 4\n" + stolen.format(5, 0) + "start 5 job 0\ndone 5\ndeliver 5 to 0\n"
+        for event in events.events_of(events.make(rest)):
+            self.assertEqual(table.step(event), (0, ""))
+        self.assertEqual((table.jobs[0].state, table.jobs[0].replica, table.jobs[0].place, table.jobs[0].price), (model.PRICED, 2, (5,), 104.0))
+
     def test_a_full_channel(self):
         """Every bond goes by way of 1 to 2, which runs it; its ACK and RESULT stay in flight: 128 messages."""
         moved = ("steal 1 from 0\ndeliver 1 to 0\ndeliver 0 to 0\ndeliver 0 to 0\ndeliver 0 to 1\ndeliver 1 to 0\n"
@@ -963,7 +1013,7 @@ class Model(Folder):
         """"For every table reached from a fresh one it equals a full recount"; the page has both."""
         lowered = 0
         for seed in range(20):
-            data, found = random_run(seed, 4, 30, 400)
+            data, found = random_run(seed, 4, 30, 800)
             table, kept = model.Table(*book_bytes.parts(data)), []
             for event in events.events_of(found):
                 self.assertNotEqual(table.step(event)[0], 9)
@@ -1000,7 +1050,8 @@ class Model(Folder):
                 self.assertEqual((len(lines), lines[-1]), (data[2] + 1, f"open {admitted}"))
         for crate, last in (("rakhvide", "open 0"), ("rakhvide_sample", "open 0"), ("test_long_list", "open 0"), ("test_broken_event", "open 1"),
                             ("test_turned_back", "open 0"), ("test_full_channel", "open 0"), ("test_empty_book", "open 0"),
-                            ("test_still_open", "open 11"), ("test_refused_book", "book refused 5"), ("test_no_files", "book refused 1")):
+                            ("test_still_open", "open 11"), ("test_joins", "open 1"), ("test_refused_book", "book refused 5"),
+                            ("test_no_files", "book refused 1")):
             self.assertEqual((CRATES / crate / "stdout").read_text().splitlines()[-1], last)
 
     def test_a_book_without_bonds(self):
@@ -1057,6 +1108,17 @@ class Samples(unittest.TestCase):
     def test_sample_close_is_the_data_of_the_program(self):
         self.assertEqual(self.made(SAMPLE), model.read_folder(CRATES / "rakhvide_sample" / "data")[:2])
 
+    def test_the_sample_close(self):
+        """A machine joins when half of the bonds are priced; another dies, and its bonds come back; the one that joined prices some of both."""
+        data, found = self.made(SAMPLE)
+        run = history.History(*book_bytes.parts(data), found)
+        (joined, row), (dead, end) = *run.joins.items(), *run.deaths.items()
+        self.assertEqual((joined, dead, len(run.rows)), (4, 2, 360))
+        self.assertEqual((run.rows[row].text, run.rows[row].open_jobs, run.rows[end].text), ("join 4", 10, "die 2"))
+        self.assertLess(row, end)
+        self.assertEqual({flight.message.replica for flight in run.flights if flight.priced and flight.message.sender == joined}, {1, 2})
+        self.assertEqual([(place, row.number) for place, row in enumerate(run.rows, 1) if row.text.startswith("join")], [(188, 27), (189, 0), (190, 27)])
+
     def test_page_of_the_first_run(self):
         """As the README prints it; 104 is document 01's price."""
         self.assertEqual(model.page(*self.made(FIRST)), FIRST_PAGE)
@@ -1083,7 +1145,7 @@ class Picture(Folder):
     def assert_complete(self, data, found):
         machines, entries = book_bytes.parts(data)
         words = self.drawn(data, found)
-        for machine in range(machines):
+        for machine in range(machines + len(history.History(machines, entries, found).joins)):
             self.assertTrue(any(text.startswith(f"machine {machine}") for text in words))
         for entry in entries:
             self.assertIn(entry.identifier.decode(), words)
@@ -1091,7 +1153,7 @@ class Picture(Folder):
         self.assertEqual(sum(f"refused {number}:" in text for number in set(numbers) for text in words), len(numbers))
 
     def test_programs(self):
-        for crate in ("rakhvide", "rakhvide_sample", "test_turned_back"):
+        for crate in ("rakhvide", "rakhvide_sample", "test_turned_back", "test_joins"):
             self.assert_complete(*model.read_folder(CRATES / crate / "data")[:2])
 
     def test_a_turned_back_steal_says_why(self):
@@ -1110,6 +1172,68 @@ class Picture(Folder):
         waits = {wait.machine: wait.end for wait in run.waits if wait.victim == 3}
         self.assertEqual(waits, notices)
         self.assertEqual(sum(row.note == "128 messages in flight" and row.text == "done 1" for row in run.rows), 2)
+
+    def laid_out(self, data, found):
+        layout = picture.Layout(history.History(*book_bytes.parts(data), found))
+        layout.place_rows(0)
+        return layout
+
+    def corners(self, element):
+        """Of the rectangles and lines that are drawn; those of a dead machine's shade too."""
+        for node in element.iter():
+            x, y, width, height, *ends = [float(node.get(name, 0)) for name in ("x", "y", "width", "height", "x1", "y1", "x2", "y2")]
+            if node.tag == "rect":
+                yield from ((x, y), (x + width, y + height))
+            if node.tag == "line":
+                yield from (ends[:2], ends[2:])
+
+    def test_a_lane_begins_where_its_machine_joins(self):
+        """Above it there is paper, and the name with the word that it comes later. A lane that is not there has no pill."""
+        runs = [model.read_folder(CRATES / crate / "data")[:2] for crate in ("rakhvide_sample", "test_joins")]
+        runs += [random_run(seed, 3, 9, 400) for seed in range(5)]
+        for data, found in runs:
+            layout = self.laid_out(data, found)
+            self.assertEqual(len(layout.lanes), data[0] + len(layout.history.joins))
+            names = [(node.text, float(node.get("x"))) for node in picture.heads(layout) if node.text and node.text.startswith("machine ")]
+            for machine, row in layout.history.joins.items():
+                lane, top = layout.lanes[machine], layout.tops[row]
+                self.assertEqual([layout.edge(at) for at in range(row + 1)][-2:], [lane.x, lane.end][-row - 1:])
+                for part in (picture.ground, picture.bars, picture.lifelines, picture.pills):
+                    for x, y in (corner for element in part(layout) for corner in self.corners(element)):
+                        self.assertFalse(x > lane.x + 0.1 and y < top - 0.1, (part, x, y))
+                shown = [text for text, _ in names[machine::len(layout.lanes)]]
+                later = sum(y + picture.HEAD < top for y in layout.heads)
+                self.assertEqual([text == f"machine {machine} later" for text in shown], [at < later for at in range(len(layout.heads))])
+                self.assertIn("joins", [pill.words for pill in layout.pills[row, machine]])
+        self.assertGreater(sum(len(self.laid_out(*run).history.joins) for run in runs), 20)
+
+    def test_a_lane_that_begins_at_the_first_event(self):
+        """Its name stands above it from the start."""
+        words = self.drawn(book.make(LISTING_BOOK), events.make("join 2\nsteal 2 from 0\n"))
+        self.assertIn("machine 2", words)
+        self.assertNotIn("machine 2 later", words)
+
+    def test_refused_joins(self):
+        """A refusal stands in the lane of the machine only where there is one by then."""
+        found = events.make("join 4\njoin 200\nsteal 3 from 0\njoin 2\njoin 3\njoin 4\njoin 4\nraw 8 5 1\n")
+        run = history.History(*book_bytes.parts(book.make(LISTING_BOOK.replace("machines 2", "machines 3"))), found)
+        self.assertEqual([(row.number, row.machine) for row in run.rows],
+                         [(27, None), (27, None), (11, None), (27, 2), (0, 3), (0, 4), (27, 4), (10, None)])
+        self.assertEqual([row.note for row in run.rows][3:6], ["it is not the next number", "4 machines now", "5 machines now"])
+        self.assertEqual(run.joins, {3: 4, 4: 5})
+        words = self.drawn(*model.read_folder(CRATES / "test_joins" / "data")[:2])
+        for count, note in ((3, "refused 26: there are 16 machines already"), (7, "refused 27: it is not the next number")):
+            self.assertEqual(sum(text.startswith(note) for text in words), count)
+
+    def test_joins_above_the_lanes(self):
+        """They are counted, and in the title where none is given."""
+        data = book.make(LISTING_BOOK)
+        for text, title, counted in (("", "2 bonds on 2 machines", "0 joins, 0 deaths"),
+                                     ("join 2\n", "2 bonds on 3 machines, 1 of which joins later", "1 join, 0 deaths"),
+                                     ("join 2\njoin 3\njoin 3\n", "2 bonds on 4 machines, 2 of which join later", "2 joins, 0 deaths")):
+            words = self.drawn(data, events.make(text))
+            self.assertEqual((words[0], counted in words[1]), (title, True))
+            self.assertEqual(words.count("joins"), 1 + text.count("join 2") + (text.count("join 3") > 0))  # the legend has one
 
     def test_open_bonds(self):
         """Document 02, 2.4: the number after each event, as a recount has it, and at the end above the lanes."""

@@ -1,4 +1,4 @@
-//! The seven events and the handling of the nine kinds of message, with their refusals in order.
+//! The eight events and the handling of the nine kinds of message, with their refusals in order.
 
 use crate::check::check;
 use crate::table::*;
@@ -31,13 +31,14 @@ fn refuse(condition: bool, number: u8) -> Answer {
 }
 
 /// 10: "code not 1 to 7, unused b not 0, or fewer than three bytes"; 11: "machine or entry number too
-/// large"; then the event's own refusals.
+/// large"; then the event's own refusals. By document 02, 2.6: "Number 10 now accepts codes 1 to 8, and 11 is
+/// judged against the current count, except that Join's own a is judged only by the new numbers."
 fn accept(table: &mut Table, event: &[u8]) -> Answer {
     let &[code, a, b, ..] = event else { return Err(10) };
-    refuse(!(1..=7).contains(&code) || (matches!(code, 1 | 5 | 6) && b != 0), 10)?;
+    refuse(!(1..=8).contains(&code) || (matches!(code, 1 | 5 | 6 | 8) && b != 0), 10)?;
     let a_limit = if code == 1 { table.entries } else { table.machines };
     let b_limit = if code == 4 { table.entries } else { table.machines };
-    refuse(a >= a_limit || (matches!(code, 2 | 3 | 4 | 7) && b >= b_limit), 11)?;
+    refuse((code != 8 && a >= a_limit) || (matches!(code, 2 | 3 | 4 | 7) && b >= b_limit), 11)?;
     match code {
         1 => admit(table, a),
         2 => steal(table, a, b),
@@ -45,7 +46,8 @@ fn accept(table: &mut Table, event: &[u8]) -> Answer {
         4 => start(table, a, b),
         5 => done(table, a),
         6 => die(table, a),
-        _ => notice(table, a, b),
+        7 => notice(table, a, b),
+        _ => join(table, a),
     }
 }
 
@@ -159,6 +161,17 @@ fn recover(table: &mut Table, b: u8) {
             table.add_to_pool(0, number, replica);
         }
     }
+}
+
+/// "adds machine a, alive, with empty pool and told of no death. [..] 26, there are 16 already; 27, a is not the
+/// next number; in that order." (document 02, 2.6) The dead are among the 16. Pool, told flags and all else of
+/// machine a are 0 before, by check 9.
+fn join(table: &mut Table, a: u8) -> Answer {
+    refuse(usize::from(table.machines) == MACHINES, 26)?;
+    refuse(a != table.machines, 27)?;
+    table.machines += 1;
+    table.machine[usize::from(a)] = Machine::FRESH;
+    Ok(())
 }
 
 /// The reserved copy returns to the pool.
@@ -288,7 +301,8 @@ mod tests {
     fn refusals() {
         let refused = |event: &[u8]| step(&mut played(&[[1, 0, 0]]), event);
         assert_eq!(refused(&[1, 0]), 10);
-        assert_eq!(refused(&[8, 0, 0]), 10);
+        assert_eq!(refused(&[0, 0, 0]), 10);
+        assert_eq!(refused(&[9, 2, 0]), 10);
         assert_eq!(refused(&[6, 1, 1]), 10);
         assert_eq!(refused(&[1, 2, 0]), 11);
         assert_eq!(refused(&[4, 0, 2]), 11);
@@ -389,5 +403,85 @@ mod tests {
         assert_eq!(step(&mut dead, &[7, 0, 1]), 0);
         assert_eq!(dead.machine[0].waits, 0);
         assert_eq!(step(&mut dead, &[2, 0, 1]), 25);
+    }
+
+    /// "adds machine a, alive, with empty pool and told of no death" (document 02, 2.6); all else stays, also with
+    /// 128 messages in flight.
+    #[test]
+    fn join_adds_a_machine() {
+        let before = [[1, 0, 0], [2, 1, 0], [6, 1, 0], [7, 0, 1]];
+        for mut table in [played(&[]), played(&before), filled(&before)] {
+            let mut expected = table.clone();
+            (expected.machines, expected.machine[2].alive) = (3, 1);
+            assert_eq!(step(&mut table, &[8, 2, 0]), 0);
+            assert_eq!(table.to_bytes(), expected.to_bytes());
+        }
+    }
+
+    /// Until there are 16, 27 for every other number; then 26 for every number, though most are dead. 10 comes
+    /// before both.
+    #[test]
+    fn turned_back_joins() {
+        let mut table = played(&[]);
+        for machines in 2..16 {
+            for a in (0..=255).filter(|a| *a != machines) {
+                assert_eq!(step(&mut table, &[8, a, 0]), 27);
+            }
+            assert_eq!(step(&mut table, &[8, machines, 1]), 10);
+            assert_eq!(step(&mut table, &[8, machines]), 10);
+            assert_eq!(step(&mut table, &[8, machines, 0]), 0);
+            assert_eq!(step(&mut table, &[6, machines, 0]), 0);
+        }
+        for a in 0..=255 {
+            assert_eq!(step(&mut table, &[8, a, 0]), 26);
+        }
+        assert_eq!(step(&mut table, &[8, 16, 1]), 10);
+    }
+
+    /// "11 is judged against the current count" (document 02, 2.6): events that name machine 2, before it joins
+    /// and after. The entry count stays.
+    #[test]
+    fn numbers_of_the_joined() {
+        let both = [[2, 2, 0], [2, 0, 2], [3, 2, 0], [3, 0, 2], [7, 2, 0], [7, 0, 2]];
+        let one = [[4, 2, 0], [5, 2, 0], [6, 2, 0], [1, 2, 0], [4, 0, 2], [7, 0, 3]];
+        let after = [0, 0, 15, 15, 21, 21, 18, 19, 0, 11, 11, 11];
+        for (event, number) in both.iter().chain(&one).zip(after) {
+            assert_eq!(step(&mut played(&[]), event), 11);
+            assert_eq!(step(&mut played(&[[8, 2, 0]]), event), number);
+        }
+    }
+
+    /// Machine 2 joins after machine 1 has died, and is told of it later: until then its steal from machine 1
+    /// waits. Then it takes job 0 from the root and prices it.
+    #[test]
+    fn joined_machine_prices() {
+        let mut table = played(&[[1, 0, 0], [6, 1, 0], [7, 0, 1], [8, 2, 0], [2, 2, 1]]);
+        assert_eq!((table.machine[2].waits, table.in_flight), (2, 0));
+        assert_eq!(step(&mut table, &[2, 2, 0]), 24);
+        assert_eq!(step(&mut table, &[7, 2, 1]), 0);
+        assert_eq!(step(&mut table, &[2, 2, 1]), 25);
+        let there = [[2, 2, 0], [3, 2, 0], [3, 0, 0], [3, 0, 0], [3, 0, 2], [3, 2, 0]];
+        for event in there.iter().chain(&[[4, 2, 0], [5, 2, 0], [3, 2, 0]]) {
+            assert_eq!(step(&mut table, event), 0);
+        }
+        let price = table.bonds[0].price();
+        assert_eq!(table.jobs[0], Job { state: PRICED, replica: 1, holder: 2, price, ..Job::NONE });
+    }
+
+    /// What stands past the machine count is 0, or the join is refused 9 as every event is.
+    #[test]
+    fn join_to_a_faulty_table() {
+        let changes: [fn(&mut Table); 5] = [
+            |table| table.machine[2].waits = 1,
+            |table| table.machine[2].alive = 1,
+            |table| table.pools[2][0] = 1,
+            |table| table.told[2][1] = 1,
+            |table| table.told[0][2] = 1,
+        ];
+        for change in changes {
+            let mut table = played(&[[6, 1, 0]]);
+            change(&mut table);
+            assert_eq!(step(&mut table, &[8, 2, 0]), 9);
+        }
     }
 }

@@ -138,7 +138,7 @@ impl Held {
 
 impl Machine {
     pub const NONE: Machine = Machine { alive: 0, reserved: Held::NONE, running: Held::NONE, waits: 0 };
-    const FRESH: Machine = Machine { alive: 1, ..Machine::NONE };
+    pub const FRESH: Machine = Machine { alive: 1, ..Machine::NONE };
 }
 
 impl Message {

@@ -7,9 +7,10 @@ use mathlib.Core.Logic.{_≢_}
 use mathlib.Core.Bool.{Bool, true, false, not, cond, _&&_}
 use mathlib.Core.List.{List, [], _∷_}
 use native.Mathlib.Omega.{arith}
-use borrow.Author.Tests.{eqb-true, eq-eqb, ne-eqb, lt-ltb}
+use borrow.Author.Tests.{eqb-true, eq-eqb, ne-eqb, ltb-true, ltb-false, lt-ltb, le-ltb}
 use lib.Dec.{eqb, ltb}
 use Rattle.lists.specs.Scan.{countTo}
+use Rattle.lists.proofs.Cases.{byBool, byEq, and-false}
 use Rattle.lists.proofs.Count.{countTo-up, countTo-same, countTo-one}
 use Rattle.table.specs.declared.Machine.{Machine}
 use Rattle.table.specs.declared.Table.{Table}
@@ -22,6 +23,10 @@ use Rattle.event_admit_deliver_die.specs.AdmitDeliverDie.{admitted, delivered, 
 use Rattle.event_steal.specs.Steal.{stolen}
 use Rattle.event_start_done.specs.StartDone.{started, finished}
 use Rattle.event_notice.specs.Notice.{noticed}
+use Rattle.event_join.specs.Join.{joined}
+use Rattle.event_join.proofs.Cases.{Joining}
+use Rattle.event_join.proofs.Views.{machine-count-joined, machine-joined, machine-joined-other}
+use Rattle.protocol_preservation.proofs.Joined.{join-16}
 use Rattle.protocol_preservation.proofs.Facts.{told-in, told-dead}
 use Rattle.theorem_invariant.proofs.State.{Invariant, machine-16}
 use Rattle.dispatcher.proofs.Fixed.{fixed-machine-count, fixed-admitted, fixed-stolen, fixed-delivered, fixed-started, fixed-finished, fixed-died}
@@ -29,7 +34,7 @@ use Rattle.dispatcher.proofs.Fixed.{fixed-noticed}
 use Rattle.event_admit_deliver_die.proofs.Views.{machine-died, machine-died-other}
 use Rattle.theorem_invariant.proofs.Alive.{alive-admitted, alive-stolen, alive-delivered, alive-started, alive-finished, alive-noticed}
 use Rattle.theorem_invariant.proofs.Keeps.{invariant-step}
-use Rattle.dispatcher.specs.Codes.{ADMIT, STEAL, DELIVER, START, DONE, DIE, NOTICE}
+use Rattle.dispatcher.specs.Codes.{ADMIT, STEAL, DELIVER, START, DONE, DIE, NOTICE, JOIN}
 use Rattle.dispatcher.specs.Step.{codeOf, firstOf, secondOf, stepOf, runOf}
 use Rattle.table.proofs.Refusals.{refused-nonzero}
 use Rattle.dispatcher.proofs.Events.{by-cases}
@@ -68,6 +73,32 @@ deaths-died t a w c =
     countTo-one (λ d. gone t d) (λ d. gone u d) 16 a l before after
     (λ d k n. sym (same d (machineAt t d .alive) (ap (λ (v : Machine). v .alive) (machine-died-other t a d n)))) ∙ omega arith
 
+-- one machine more, which is not d
+below-next : (d M : ℕ) → d ≢ M → ltb d (M + 1) ≡ ltb d M
+below-next d M n =
+    byBool (ltb d M)
+    (λ e. let l = ltb-true d M e in lt-ltb d (M + 1) (omega arith) ∙ sym e)
+    (λ e. let l = ltb-false d M e in le-ltb d (M + 1) (omega arith) ∙ sym e)
+
+-- who joins lives, and was not there before
+deaths-joined : (t : Table) (a : ℕ) → Invariant t → Joining t a → deaths (joined t a) ≡ deaths t
+deaths-joined t a w c =
+    let u = joined t a in
+    let M = t .«machine_count» in
+    countTo-same (λ d. gone u d) (λ d. gone t d) 16 (λ d l.
+    byEq d a
+    (λ e. rw (
+      e,
+      machine-joined t a (w .sized) (join-16 t (w .sized) (w .ok) a c),
+      and-false (ltb a (u .«machine_count»)),
+      le-ltb a M (omega (arith, c .next)),
+    ) refl)
+    (λ e. rw (
+      machine-joined-other t a d e,
+      machine-count-joined t a,
+      below-next d M (λ z. e (z ∙ sym (c .next))),
+    ) refl))
+
 -- ---- any event
 
 module _ (t : Table) (w : Invariant t) (e : List ℕ) where
@@ -98,6 +129,7 @@ module _ (t : Table) (w : Invariant t) (e : List ℕ) where
         die = λ c d. rw (eq-eqb (codeOf e) DIE c) (deaths-died t a w d);
         notice = λ c d. not-a-death (noticed t a b) NOTICE c refl (deaths-same t _ (fixed-noticed (λ s. s .«machine_count») fixed-machine-count t a b)
             (alive-noticed t a b));
+        join = λ c d. not-a-death (joined t a) JOIN c refl (deaths-joined t a w d);
       })
 
 pub deaths-run : (t : Table) (es : List (List ℕ)) → Invariant t → deaths (runOf t es) ≡ deaths t + countOf kills t es

@@ -8,5 +8,6 @@ pub mod Shown
 pub mod Further
 pub mod Start
 pub mod Open
+pub mod Joins
 pub mod Demand3
 pub mod Only

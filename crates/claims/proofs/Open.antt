@@ -84,6 +84,7 @@ module _ (t : Table) (w : Invariant t) (e : List ℕ) where
         done = λ c d h k. absurd (omega arith);
         die = λ c d h k. absurd (omega arith);
         notice = λ c d h k. absurd (omega arith);
+        join = λ c d h k. absurd (omega arith);
       })
 
   -- an event that changes the state of job j alone

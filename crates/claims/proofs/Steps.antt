@@ -20,13 +20,15 @@ use Rattle.event_admit_deliver_die.specs.AdmitDeliverDie.{admitted, delivered, 
 use Rattle.event_steal.specs.Steal.{stolen}
 use Rattle.event_start_done.specs.StartDone.{started, finished}
 use Rattle.event_notice.specs.Notice.{affected, noticeLocal, reissue, noticed}
+use Rattle.event_join.specs.Join.{joined}
+use Rattle.event_join.proofs.Views.{job-joined}
 use Rattle.protocol_preservation.proofs.Sizes.{sized-noticeLocal}
 use Rattle.theorem_invariant.proofs.State.{Invariant}
 use Rattle.theorem_invariant.proofs.Frame.{job-enter}
 use Rattle.event_admit_deliver_die.proofs.Views.{job-died}
 use Rattle.event_notice.proofs.Parts.{job-noticeLocal, affected-open}
 use Rattle.theorem_invariant.proofs.Reissued.{reissuedJob, job-reissue}
-use Rattle.dispatcher.specs.Codes.{ADMIT, STEAL, DELIVER, START, DONE, DIE, NOTICE}
+use Rattle.dispatcher.specs.Codes.{ADMIT, STEAL, DELIVER, START, DONE, DIE, NOTICE, JOIN}
 use Rattle.dispatcher.specs.Step.{codeOf, firstOf, secondOf, stepOf}
 use Rattle.claims.specs.History.{admits, delivers, finds, takenOff}
 use Rattle.table.proofs.Refusals.{refused-nonzero}
@@ -149,4 +151,5 @@ module _ (t : Table) (w : Invariant t) (e : List ℕ) (j : ℕ) (l : j < 64) whe
         done = λ c d. job-unchanged (finished t (firstOf e)) DONE c refl refl refl (job-finished t j (firstOf e));
         die = λ c d. job-unchanged (died t (firstOf e)) DIE c refl refl refl (job-died t (firstOf e) j);
         notice = λ c d. notice c;
+        join = λ c d. job-unchanged (joined t (firstOf e)) JOIN c refl refl refl (job-joined t (firstOf e) j);
       })

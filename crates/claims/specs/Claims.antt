@@ -1,7 +1,8 @@
 -- Demand 3: one claim about an accepted book, a whole list of events, each of them any list of bytes, and what comes back when they are run from the
--- fresh table of the book: the numbers that they are answered, and the table after them. Its sentences are quoted from the three demands (README.md,
--- "What is proved"); what their words mean is document 01's "A run, and the words of demand 3". It is stated over definitions alone; its proof is
--- `demand-3` in proofs/Demand3.antt, and that of the sentence on two runs `runs-agree` beside it.
+-- fresh table of the book: the numbers that they are answered, and the table after them. Machines may join anywhere among the events (document 02, 2.6;
+-- what is claimed of the joins themselves is in Joins.antt). Its sentences are quoted from the three demands (README.md, "What is proved"); what their
+-- words mean is document 01's "A run, and the words of demand 3". It is stated over definitions alone; its proof is `demand-3` in
+-- proofs/Demand3.antt, and that of the sentence on two runs `runs-agree` beside it.
 --
 --   openOf book .table      the fresh table of the book                       (table_opening)
 --   stepOf t e              the answer to event e on table t, and its table   (dispatcher)
@@ -53,13 +54,14 @@ pub record Shown (book : List ℕ) (fresh : Table) (events : List (List ℕ)) (j
   pub bounded : v .replica ≤ 1 + countOf kills fresh events
 
 -- "at most 879 further accepted events (no admission, steal or death) price every admitted bond"
+-- "a join is not one of those events" (document 02, 2.6)
 -- "The further events go on in the same way from the table the run ended with; each of them returns 0, and there may be none."
 pub record Further (t : Table) : Type 0 where
   pub events : List (List ℕ)
   pub few : length events ≤ 879
   -- each returns 0
   pub accepted : answersOf t events ≡ replicate (length events) 0
-  -- each has three bytes, and is no admission, steal or death
+  -- each has three bytes, and is no admission, steal, death or join
   pub only : allFurther events ≡ true
   -- every bond that is admitted in t is priced after them
   pub priced : (j : ℕ) → jobAt t j .state ≢ NOT-ADMITTED → jobAt (runOf t events) j .state ≡ PRICED
@@ -79,7 +81,8 @@ pub record Demand3 (book : List ℕ) (events : List (List ℕ)) (numbers : List 
   -- the further events, from the table the run ended with
   pub further : Further table
 
--- "So a bond priced in two such runs over one book has one price in both."
+-- "So a bond priced in two such runs over one book has one price in both." "Two runs may differ in who joins" (document 02, 2.6): the two lists of
+-- events have nothing to do with each other, so machines may join in one and not in the other, earlier or later, more or fewer
 pub record RunsAgree (book : List ℕ) : Type 0 where
   pub price : (events others : List (List ℕ)) (j : ℕ) → j < entryCount book
       → jobAt (runOf (openOf book .table) events) j .state ≡ PRICED → jobAt (runOf (openOf book .table) others) j .state ≡ PRICED

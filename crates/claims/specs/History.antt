@@ -62,7 +62,7 @@ stateAfter n (p ∷ ps) = PRICED
 unfoldable pub serialOf : List ℕ → List ℕ
 serialOf book = tabulate (λ i. priceBits (bondOf book i)) (entryCount book)
 
--- "(no admission, steal or death)", of every event of a list
+-- "(no admission, steal or death)", and no join, of every event of a list
 unfoldable pub allFurther : List (List ℕ) → Bool
 allFurther [] = true
 allFurther (e ∷ es) = isFurther e && allFurther es

@@ -1,3 +1,4 @@
 pub mod History
 pub mod Claims
 pub mod Open
+pub mod Joins

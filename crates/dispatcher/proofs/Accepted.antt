@@ -1,5 +1,5 @@
--- An event by its number: with another number than 0 it hands the table back; with 0 the table of a Die or a Notice is that of the event, whose refusals
--- have tested what the record of its kind says. Assumes nothing.
+-- An event by its number: with another number than 0 it hands the table back; with 0 the table of a Die, a Notice or a Join is that of the event, whose
+-- refusals have tested what the record of its kind says. Assumes nothing.
 use Prim.Native.Nat.{ℕ, _≤_, _<_}
 use mathlib.Core.Path.{_≡_, refl, sym, ap, _∙_}
 use mathlib.Core.Logic.{_≢_}
@@ -16,9 +16,11 @@ use Rattle.event_admit_deliver_die.specs.AdmitDeliverDie.{died, dieOf}
 use Rattle.event_admit_deliver_die.proofs.Cases.{Dying, by-die}
 use Rattle.event_notice.specs.Notice.{noticed, noticeOf}
 use Rattle.event_notice.proofs.Cases.{Noticing, by-notice}
+use Rattle.event_join.specs.Join.{joined, joinOf}
+use Rattle.event_join.proofs.Cases.{Joining, by-join}
 use Rattle.dispatcher.proofs.Events.{answer-number}
 use Rattle.dispatcher.proofs.Numbers.{machines-in}
-use Rattle.dispatcher.specs.Codes.{ADMIT, STEAL, DELIVER, START, DONE, DIE, NOTICE}
+use Rattle.dispatcher.specs.Codes.{ADMIT, STEAL, DELIVER, START, DONE, DIE, NOTICE, JOIN}
 use Rattle.dispatcher.specs.Step.{twoMachines, indicesInRange, eventOf, answerOf}
 
 module _ (t : Table) (e : List ℕ) where
@@ -46,11 +48,15 @@ module _ (t : Table) (code a b : ℕ) (g : indicesInRange t code a b ≡ true) (
   unfolding eventOf
   table-notice e = accepts (noticeOf t a b) (rw (e, eventOf) refl) (let m = two NOTICE e refl in by-notice t a b (m .0) (m .1))
 
--- past Die no other code than Notice's is one of an event
-pub late-notice : (t : Table) (code a b : ℕ) → DIE ≤ code → code ≢ DIE → eventOf t code a b .number ≡ 0 → code ≡ NOTICE
+  pub table-join : code ≡ JOIN → Joining t a × (joined t a ≡ eventOf t code a b .table)
+  unfolding eventOf
+  table-join e = accepts (joinOf t a) (rw (e, eventOf) refl) (by-join t a)
+
+-- past Notice no other code than Join's is one of an event
+pub late-join : (t : Table) (code a b : ℕ) → DIE ≤ code → code ≢ DIE → code ≢ NOTICE → eventOf t code a b .number ≡ 0 → code ≡ JOIN
 unfolding eventOf
-late-notice t code a b h n z =
-    byEq code NOTICE (λ e. e)
+late-join t code a b h n m z =
+    byEq code JOIN (λ e. e)
     (λ f. let y : 10 ≡ 0 = rw (
       ne-eqb code ADMIT (λ q. omega arith),
       ne-eqb code STEAL (λ q. omega arith),
@@ -58,5 +64,6 @@ late-notice t code a b h n z =
       ne-eqb code START (λ q. omega arith),
       ne-eqb code DONE (λ q. omega arith),
       ne-eqb code DIE n,
-      ne-eqb code NOTICE f,
+      ne-eqb code NOTICE m,
+      ne-eqb code JOIN f,
     ) at z in absurd (omega arith))

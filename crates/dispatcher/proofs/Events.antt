@@ -25,8 +25,10 @@ use Rattle.event_start_done.specs.StartDone.{started, finished}
 use Rattle.event_start_done.proofs.Cases.{Starting, Finishing, by-start, by-done}
 use Rattle.event_notice.specs.Notice.{noticed}
 use Rattle.event_notice.proofs.Cases.{Noticing, by-notice}
+use Rattle.event_join.specs.Join.{joined}
+use Rattle.event_join.proofs.Cases.{Joining, by-join}
 use Rattle.dispatcher.proofs.Numbers.{entry-in, start-in, machines-in}
-use Rattle.dispatcher.specs.Codes.{ADMIT, STEAL, DELIVER, START, DONE, DIE, NOTICE}
+use Rattle.dispatcher.specs.Codes.{ADMIT, STEAL, DELIVER, START, DONE, DIE, NOTICE, JOIN}
 use Rattle.dispatcher.specs.Step.{codeOf, firstOf, secondOf, twoMachines, wellFormed, indicesInRange, eventOf, answerOf, stepOf}
 
 -- ---- an accepted event, by its code: the one list of the events
@@ -40,6 +42,7 @@ pub record Arms (P : Table → Type 0) (t : Table) (e : List ℕ) : Type 0 where
   pub done : codeOf e ≡ DONE → Finishing t (firstOf e) → P (finished t (firstOf e))
   pub die : codeOf e ≡ DIE → Dying t (firstOf e) → P (died t (firstOf e))
   pub notice : codeOf e ≡ NOTICE → Noticing t (firstOf e) (secondOf e) → P (noticed t (firstOf e) (secondOf e))
+  pub join : codeOf e ≡ JOIN → Joining t (firstOf e) → P (joined t (firstOf e))
 
 -- what holds of every table, whatever the event
 every-arm : (P : Table → Type 0) (t : Table) (e : List ℕ) → ((u : Table) → P u) → Arms P t e
@@ -51,6 +54,7 @@ every-arm P t e f = record {
   done = λ c d. f _;
   die = λ c d. f _;
   notice = λ c d. f _;
+  join = λ c d. f _;
 }
 
 -- ---- any event, of any bytes
@@ -86,7 +90,8 @@ module _ (P : Answer → Type 0) (t : Table) (e : List ℕ)
       (λ x5. byBool (eqb c DIE) (λ x. rw (x1, x2, x3, x4, x5, x, eventOf) (by-die t a (two DIE x refl .0) P refused (arms .die (eqb-true c DIE x))))
       (λ x6. byBool (eqb c NOTICE) (λ x. let p = two NOTICE x refl in rw (x1, x2, x3, x4, x5, x6, x, eventOf)
       (by-notice t a b (p .0) (p .1) P refused (arms .notice (eqb-true c NOTICE x))))
-      (λ x7. rw (x1, x2, x3, x4, x5, x6, x7, eventOf) (refused 10 refl))))))))
+      (λ x7. byBool (eqb c JOIN) (λ x. rw (x1, x2, x3, x4, x5, x6, x7, x, eventOf) (by-join t a P refused (arms .join (eqb-true c JOIN x))))
+      (λ x8. rw (x1, x2, x3, x4, x5, x6, x7, x8, eventOf) (refused 10 refl)))))))))
 
   pub by-answer : P (answerOf t e)
   by-answer = by-form P t e refused (λ f g. by-event g)

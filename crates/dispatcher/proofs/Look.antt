@@ -52,7 +52,8 @@ module _ (t : Table) (s : Sized t) (h : tableOk t ≡ true) (e : List ℕ) (q : 
   pub look-placed : Placed w
   look-placed = rw (k .place) (placed t (ready t s h) e x low within (handled-job-below x low (within .job)) q (k .asked))
 
-  pub look-number : numberOf q (partsAt t (w .machine) (w .job)) (machineAt t (w .peer)) (toldIn t w) (t .«in_flight») slot ≡ answerOf t e .number
+  pub look-number : numberOf q (partsAt t (w .machine) (w .job)) (machineAt t (w .peer)) (toldIn t w) (t .«in_flight») slot (t .«machine_count»)
+      ≡ answerOf t e .number
   look-number = rw (k .place) (numbered t e x low q (k .asked) slot (k .found))
 
   -- the change

@@ -41,12 +41,14 @@ use Rattle.event_start_done.proofs.Cases.{by-start, by-done}
 use Rattle.event_start_done.proofs.Made.{start-number, made-started, done-number, made-finished}
 use Rattle.event_notice.specs.Notice.{noticeOf}
 use Rattle.event_notice.proofs.Number.{notice-number}
+use Rattle.event_join.specs.Join.{joinOf}
+use Rattle.event_join.proofs.Cases.{join-number}
 use Rattle.dispatcher.proofs.Form.{wellFormed-code}
 use Rattle.dispatcher.proofs.Numbers.{entry-in, start-in, machines-in}
 use Rattle.dispatcher.proofs.Search.{slotOf}
 use Rattle.dispatcher.specs.declared.Ask.{Ask}
 use Rattle.dispatcher.specs.declared.Place.{Place}
-use Rattle.dispatcher.specs.Codes.{ADMIT, STEAL, DELIVER, START, DONE, DIE, NOTICE, lastCode}
+use Rattle.dispatcher.specs.Codes.{ADMIT, STEAL, DELIVER, START, DONE, DIE, NOTICE, JOIN, lastCode}
 use Rattle.dispatcher.specs.EventParts.{ask, inRange, askOf, placeOf, numberOf, changeOf}
 use Rattle.dispatcher.specs.Step.{codeOf, firstOf, secondOf, twoMachines, wellFormed, indicesInRange, eventOf, answerOf}
 
@@ -61,8 +63,9 @@ pub record Coded (t : Table) (a b : ℕ) (P : ℕ → Answer → Type 0) : Type 
   pub done : a < t .«machine_count» → b < t .«machine_count» → P DONE (doneOf t a)
   pub die : a < t .«machine_count» → b < t .«machine_count» → P DIE (dieOf t a)
   pub notice : a < t .«machine_count» → b < t .«machine_count» → P NOTICE (noticeOf t a b)
+  pub join : P JOIN (joinOf t a)
 
-not-both : (code : ℕ) → 8 ≤ code → code ≤ 7 → ⊥
+not-both : (code : ℕ) → suc lastCode ≤ code → code ≤ lastCode → ⊥
 not-both code l m = omega arith
 
 next : (n code : ℕ) → n ≤ code → code ≢ n → suc n ≤ code
@@ -81,8 +84,10 @@ by-code t code a b g l m P r =
     (λ n4. byEq code DONE (λ e. let p = two DONE e refl in rw (e, eventOf) (r .done (p .0) (p .1)))
     (λ n5. byEq code DIE (λ e. let p = two DIE e refl in rw (e, eventOf) (r .die (p .0) (p .1)))
     (λ n6. byEq code NOTICE (λ e. let p = two NOTICE e refl in rw (e, eventOf) (r .notice (p .0) (p .1)))
-    (λ n7. let past = next 7 code (next 6 code (next 5 code (next 4 code (next 3 code (next 2 code (next 1 code l n1) n2) n3) n4) n5) n6) n7 in
-    absurd (not-both code past m))))))))
+    (λ n7. byEq code JOIN (λ e. rw (e, eventOf) (r .join))
+    (λ n8.
+    let five = next 4 code (next 3 code (next 2 code (next 1 code l n1) n2) n3) n4 in
+    absurd (not-both code (next 8 code (next 7 code (next 6 code (next 5 code five n5) n6) n7) n8) m)))))))))
 
 -- ---- by what the bytes ask for
 
@@ -132,6 +137,7 @@ module _ (t : Table) (r : Ready t) (e : List ℕ) (x : Message) (low : ℕ) (i :
         done = λ h k y. two _ _ h k;
         die = λ h k y. two _ _ h k;
         notice = λ h k y. two _ _ h k;
+        join = λ y. record { machine = omega arith; job = omega arith; told = omega arith; peer = omega arith };
       }))
 
 -- ---- the number
@@ -143,12 +149,13 @@ toldIn t w = getD (t .told) (w .told) 0
 pub numbered : (t : Table) (e : List ℕ) (x : Message) (low : ℕ) (q : Ask) → q ≡ askOf (t .«machine_count») (t .«entry_count») e
     → (slot : ℕ) → slot ≡ slotOf t q
     → let w = placeOf q x low in
-    numberOf q (partsAt t (w .machine) (w .job)) (machineAt t (w .peer)) (toldIn t w) (t .«in_flight») slot ≡ answerOf t e .number
+    numberOf q (partsAt t (w .machine) (w .job)) (machineAt t (w .peer)) (toldIn t w) (t .«in_flight») slot (t .«machine_count») ≡ answerOf t e .number
 unfolding placeOf numberOf partsAt toldAt slotOf
 numbered t e x low q o =
     rw o (by-ask t e (λ y. (slot : ℕ) → slot ≡ slotOf t y
     → let w = placeOf y x low in
-    numberOf y (partsAt t (w .machine) (w .job)) (machineAt t (w .peer)) (toldIn t w) (t .«in_flight») slot ≡ answerOf t e .number)
+    numberOf y (partsAt t (w .machine) (w .job)) (machineAt t (w .peer)) (toldIn t w) (t .«in_flight») slot (t .«machine_count»)
+    ≡ answerOf t e .number)
     (λ n z y slot s. number-of n y)
     (record {
       admit = λ h y slot s. admit-number t (firstOf e) ∙ sym (number-is y);
@@ -159,6 +166,7 @@ numbered t e x low q o =
       done = λ h k y slot s. done-number t (firstOf e) ∙ sym (number-is y);
       die = λ h k y slot s. die-number t (firstOf e) ∙ sym (number-is y);
       notice = λ h k y slot s. notice-number t (firstOf e) (secondOf e) ∙ sym (number-is y);
+      join = λ y slot s. join-number t (firstOf e) ∙ sym (number-is y);
     }))
   where
     number-is : {a : Answer} → answerOf t e ≡ a → answerOf t e .number ≡ a .number
@@ -225,6 +233,7 @@ module _ (t : Table) (e : List ℕ) (x : Message) (low slot : ℕ) (hx : x ≡ m
             (made-finished t (firstOf e) 0 ∙ ends t e (doneOf t (firstOf e)) y (by-done t (firstOf e) h) f .1);
         die = λ h k y s c f. absurd (omega arith);
         notice = λ h k y s c f. absurd (omega arith);
+        join = λ y s c f. absurd (omega arith);
       }))
 
 -- ---- what is sent
@@ -244,6 +253,7 @@ module _ (t : Table) (r : Ready t) (e : List ℕ) (x : Message) (low : ℕ) (i :
         done = λ h k y. omega arith;
         die = λ h k y. omega arith;
         notice = λ h k y. omega arith;
+        join = λ y. omega arith;
       }))
 
 -- the parts as the event leaves them, before the messages
@@ -283,9 +293,10 @@ module _ (t : Table) (e : List ℕ) (x : Message) (low slot : ℕ) (g : 128 ≤ 
         done = λ h k y s l c f. absurd (omega (arith, ends t e (doneOf t a) y (by-done t a h) f .0 .room));
         die = λ h k y s l c f. absurd (omega arith);
         notice = λ h k y s l c f. absurd (omega arith);
+        join = λ y s l c f. absurd (omega arith);
       }))
 
--- ---- Die and Notice, on the table
+-- ---- Die, Notice and Join, on the table
 
 -- an event past Done is that of its code, with its numbers in the table
 pub by-value : (t : Table) (e : List ℕ) (q : Ask) → q ≡ askOf (t .«machine_count») (t .«entry_count») e → DIE ≤ q .code
@@ -303,6 +314,7 @@ by-value t e q o =
       done = λ h k y g. absurd (omega arith);
       die = λ h k y g. (rw (lt-ltb _ _ h, lt-ltb _ _ k), y);
       notice = λ h k y g. (rw (lt-ltb _ _ h, lt-ltb _ _ k), y);
+      join = λ y g. (refl, y);
     }))
 
 -- ---- Steal
@@ -320,4 +332,5 @@ steal-below t r e q o =
       done = λ h k y g. absurd (omega arith);
       die = λ h k y g. absurd (omega arith);
       notice = λ h k y g. absurd (omega arith);
+      join = λ y g. absurd (omega arith);
     }))

@@ -13,6 +13,7 @@ use Rattle.protocol_preservation.proofs.Ok.{Valid, ok, counts, passes}
 use Rattle.protocol_preservation.proofs.Accepted.{valid-admitted, valid-stolen, valid-delivered, valid-started, valid-finished}
 use Rattle.protocol_preservation.proofs.Died.{valid-died}
 use Rattle.protocol_preservation.proofs.Noticed.{valid-noticed}
+use Rattle.protocol_preservation.proofs.Joined.{valid-joined}
 use Rattle.dispatcher.specs.Step.{answerOf, stepOf, runOf}
 use Rattle.dispatcher.proofs.ByEvent.{Preserved, by-step, by-run}
 
@@ -33,6 +34,7 @@ valid-preserved t e v = record {
   done = λ c d. valid-finished t v _ d;
   die = λ c d. valid-died t v _ d;
   notice = λ c d. valid-noticed t v _ _ d;
+  join = λ c d. valid-joined t v _ d;
 }
 
 -- a table that passes is not refused for 9

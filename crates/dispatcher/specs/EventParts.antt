@@ -19,9 +19,10 @@ use Rattle.event_steal.specs.StealParts.{stealChange}
 use Rattle.event_start_done.specs.StartDone.{startNumber, doneNumber}
 use Rattle.event_start_done.specs.StartDoneParts.{startChange, doneChange}
 use Rattle.event_notice.specs.Notice.{noticeNumber}
+use Rattle.event_join.specs.Join.{joinNumber}
 use Rattle.dispatcher.specs.declared.Ask.{Ask}
 use Rattle.dispatcher.specs.declared.Place.{Place}
-use Rattle.dispatcher.specs.Codes.{ADMIT, STEAL, DELIVER, START, DONE, DIE, NOTICE}
+use Rattle.dispatcher.specs.Codes.{ADMIT, STEAL, DELIVER, START, DONE, DIE, NOTICE, JOIN}
 use Rattle.dispatcher.specs.Step.{codeOf, firstOf, secondOf, twoMachines, wellFormed}
 
 -- "machine or entry number too large": the contrary, for m machines and n entries
@@ -50,17 +51,18 @@ abbrev pub place : ℕ → ℕ → ℕ → ℕ → Place
 place m j d p = record { machine = m; job = j; told = d; peer = p }
 
 -- the machine, the job, the told flag and the second machine that an event looks at; x is the message that Deliver takes off, low the lowest job of
--- the machine that a FISH is to
+-- the machine that a FISH is to. Join looks at none: there is no machine a yet, and its a may be any byte
 unfoldable pub placeOf : Ask → Message → ℕ → Place
 placeOf q x low =
     cond (eqb (q .code) ADMIT) (place 0 (q .a) 0 0)
     (cond (eqb (q .code) DELIVER) (place (x .to) (handledJob x low) (x .thief) 0)
     (cond (eqb (q .code) START) (place (q .a) (q .b) 0 0)
-    (place (q .a) 0 (q .a * 16 + q .b) (q .b))))
+    (cond (eqb (q .code) JOIN) (place 0 0 0 0)
+    (place (q .a) 0 (q .a * 16 + q .b) (q .b)))))
 
--- the number: 10 and 11 where the bytes asked for no event, else that of the event of the code
-unfoldable pub numberOf : Ask → Parts → Machine → ℕ → ℕ → ℕ → ℕ
-numberOf q p peer told used slot =
+-- the number: 10 and 11 where the bytes asked for no event, else that of the event of the code; count is the machine count
+unfoldable pub numberOf : Ask → Parts → Machine → ℕ → ℕ → ℕ → ℕ → ℕ
+numberOf q p peer told used slot count =
     cond (eqb (q .code) ADMIT) (admitNumber (p .job))
     (cond (eqb (q .code) STEAL) (stealNumber (p .machine) peer told used (q .a) (q .b))
     (cond (eqb (q .code) DELIVER) (deliverNumber used slot)
@@ -68,7 +70,8 @@ numberOf q p peer told used slot =
     (cond (eqb (q .code) DONE) (doneNumber (p .machine) used)
     (cond (eqb (q .code) DIE) (dieNumber (q .a) (p .machine))
     (cond (eqb (q .code) NOTICE) (noticeNumber (p .machine) peer told)
-    (q .number)))))))
+    (cond (eqb (q .code) JOIN) (joinNumber count (q .a))
+    (q .number))))))))
 
 -- the change that an accepted event of code 1 to 5 makes; bond is that of the copy which the machine runs
 unfoldable pub changeOf : Ask → Parts → Message → ℕ → ℕ → Bond → Change

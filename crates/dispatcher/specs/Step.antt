@@ -1,5 +1,5 @@
 -- Document 01, "Where each refusal is checked": one event on a table, whatever the table and the bytes of the event; a list of
--- events, with its table and its numbers; and which events are further ones. Definitions only.
+-- events, with its table and its numbers; and which events are further ones. Event 8 is document 02's, 2.6. Definitions only.
 use mathlib.Core.Bool.{Bool, true, not, cond, _&&_, _||_}
 use mathlib.Core.List.{List, [], _∷_}
 use Prim.Native.Nat.{ℕ}
@@ -13,7 +13,8 @@ use Rattle.event_admit_deliver_die.specs.AdmitDeliverDie.{admitOf, deliverOf, d
 use Rattle.event_steal.specs.Steal.{stealOf}
 use Rattle.event_start_done.specs.StartDone.{startOf, doneOf}
 use Rattle.event_notice.specs.Notice.{noticeOf}
-use Rattle.dispatcher.specs.Codes.{ADMIT, STEAL, DELIVER, START, DONE, DIE, NOTICE, lastCode}
+use Rattle.event_join.specs.Join.{joinOf}
+use Rattle.dispatcher.specs.Codes.{ADMIT, STEAL, DELIVER, START, DONE, DIE, NOTICE, JOIN, lastCode}
 
 -- "Events are three bytes: code, a, b."
 abbrev pub event : ℕ → ℕ → ℕ → List ℕ
@@ -31,11 +32,11 @@ firstOf e = getD e 1 0
 abbrev pub secondOf : List ℕ → ℕ
 secondOf e = getD e 2 0
 
--- Admit, Done and Die have no use for b
+-- Admit, Done, Die and Join have no use for b
 abbrev pub usesSecond : ℕ → Bool
-usesSecond code = not (eqb code ADMIT || eqb code DONE || eqb code DIE)
+usesSecond code = not (eqb code ADMIT || eqb code DONE || eqb code DIE || eqb code JOIN)
 
--- "code not 1 to 7, unused b not 0, or fewer than three bytes": the contrary
+-- "code not 1 to 7, unused b not 0, or fewer than three bytes", and "Number 10 now accepts codes 1 to 8": the contrary
 unfoldable pub wellFormed : List ℕ → Bool
 wellFormed e = leb 3 (length e) && leb 1 (codeOf e) && leb (codeOf e) lastCode && (usesSecond (codeOf e) || eqb (secondOf e) 0)
 
@@ -43,7 +44,8 @@ wellFormed e = leb 3 (length e) && leb 1 (codeOf e) && leb (codeOf e) lastCode &
 abbrev pub twoMachines : ℕ → Bool
 twoMachines code = eqb code STEAL || eqb code DELIVER || eqb code DONE || eqb code DIE || eqb code NOTICE
 
--- "machine or entry number too large": the contrary. Admit's a and Start's b are entry numbers
+-- "machine or entry number too large": the contrary. Admit's a and Start's b are entry numbers. "11 is judged against the current count, except that
+-- Join's own a is judged only by the new numbers"
 unfoldable pub indicesInRange : Table → ℕ → ℕ → ℕ → Bool
 indicesInRange t code a b =
     cond (twoMachines code) (ltb a (t .«machine_count») && ltb b (t .«machine_count»))
@@ -61,7 +63,8 @@ eventOf t code a b =
     (cond (eqb code DONE) (doneOf t a)
     (cond (eqb code DIE) (dieOf t a)
     (cond (eqb code NOTICE) (noticeOf t a b)
-    (refuse 10 t)))))))
+    (cond (eqb code JOIN) (joinOf t a)
+    (refuse 10 t))))))))
 
 -- 10 and 11, then the event's own refusals: of a table that passes check 9
 unfoldable pub answerOf : Table → List ℕ → Answer
@@ -84,6 +87,6 @@ unfoldable pub answersOf : Table → List (List ℕ) → List ℕ
 answersOf t [] = []
 answersOf t (e ∷ es) = stepOf t e .number ∷ answersOf (stepOf t e .table) es
 
--- "further .. events (no admission, steal or death)": three bytes, a Deliver, Start, Done or Notice
+-- "further .. events (no admission, steal or death)", and "a join is not one of those events": three bytes, a Deliver, Start, Done or Notice
 abbrev pub isFurther : List ℕ → Bool
 isFurther e = eqb (length e) 3 && (eqb (codeOf e) DELIVER || (eqb (codeOf e) START || (eqb (codeOf e) DONE || eqb (codeOf e) NOTICE)))

@@ -1,6 +1,6 @@
 // The dispatcher: events on a table, one after another. Events 1 to 5 are functions of parts (crates `handler` and `event_*`): parts of the table in,
 // a change out. `run` is the one place where the parts are read and the change is made: on its own table, element by element, so that no table is
-// copied. Die and Notice may change many parts; they take a table and give one back.
+// copied. Die, Notice and Join change other parts than these; they take a table and give one back.
 ghost use mathlib.Core.Path.{_≡_};
 ghost use mathlib.Core.Bool.{true, _&&_, _||_};
 ghost use mathlib.Core.List.{_++_};
@@ -11,7 +11,7 @@ ghost use Rattle.validity.specs.Validity.{tableOk};
 ghost use Rattle.table.specs.Needs.{Ready};
 ghost use Rattle.dispatcher.specs.Codes.{STEAL, DIE, lastCode};
 ghost use Rattle.dispatcher.specs.Events.{bytesMost, eventAt, eventCount, eventsIn};
-ghost use Rattle.dispatcher.specs.EventParts.{ask, inRange, askOf, firstSlot, placeOf, numberOf, changeOf};
+ghost use Rattle.dispatcher.specs.EventParts.{ask, inRange, askOf, firstSlot, place, placeOf, numberOf, changeOf};
 ghost use Rattle.dispatcher.specs.Step.{usesSecond, indicesInRange, eventOf, stepOf, runOf, answersOf};
 use pricer::Bond;
 use protocol_change::Change;
@@ -36,8 +36,10 @@ const DIE: u8 = 6;
 
 const NOTICE: u8 = 7;
 
+const JOIN: u8 = 8;
+
 // The codes are 1 to this one.
-const LAST_CODE: u8 = NOTICE;
+const LAST_CODE: u8 = JOIN;
 
 // What an event asks for: 10 or 11 and zeros; or 0, its code and its two numbers.
 pub struct Ask {
@@ -61,10 +63,10 @@ fn well_formed(code: u8, b: u8) -> bool
 {
     (1 <= code)
         & (code <= LAST_CODE)
-        & (!((code == ADMIT) | (code == DONE) | (code == DIE)) | (b == 0))
+        & (!((code == ADMIT) | (code == DONE) | (code == DIE) | (code == JOIN)) | (b == 0))
 }
 
-// Whether the numbers of an event are those of m machines and n entries.
+// Whether the numbers of an event are those of m machines and n entries. Join's a is not asked about.
 fn in_range(m: u8, n: u8, code: u8, a: u8, b: u8) -> bool
     ensures { λ r. ⌜ r ≡ inRange m n code a b ⌝ }
 {
@@ -126,47 +128,48 @@ fn first_slot(code: u8, used: usize) -> usize
     used
 }
 
-// Where an event looks. The message is the one that Deliver takes off, low the lowest job of the machine that a FISH is to.
+// These four as one place.
+fn at(machine: usize, job: usize, told: usize, peer: usize) -> Place
+    ensures { λ r. ⌜ r ≡ place machine job told peer ⌝ }
+{
+    Place {
+        machine,
+        job,
+        told,
+        peer,
+    }
+}
+
+// Where an event looks. The message is the one that Deliver takes off, low the lowest job of the machine that a FISH is to. Join's a may be any byte,
+// and it looks nowhere.
 fn place_of(ask: Ask, m: Message, low: usize) -> Place
     ensures { λ r. ⌜ r ≡ placeOf ask m low ⌝ }
 {
     let a = ask.a as usize;
     let b = ask.b as usize;
     if ask.code == ADMIT {
-        return Place {
-            machine: 0,
-            job: a,
-            told: 0,
-            peer: 0,
-        };
+        return at(0, a, 0, 0);
     }
     if ask.code == DELIVER {
-        return Place {
-            machine: m.to as usize,
-            job: handler::handled_job(m, low),
-            told: m.thief as usize,
-            peer: 0,
-        };
+        return at(
+            m.to as usize,
+            handler::handled_job(m, low),
+            m.thief as usize,
+            0,
+        );
     }
     if ask.code == START {
-        return Place {
-            machine: a,
-            job: b,
-            told: 0,
-            peer: 0,
-        };
+        return at(a, b, 0, 0);
     }
-    Place {
-        machine: a,
-        job: 0,
-        told: a * 16 + b,
-        peer: b,
+    if ask.code == JOIN {
+        return at(0, 0, 0, 0);
     }
+    at(a, 0, a * 16 + b, b)
 }
 
-// The number of an event, by its code.
-fn number_of(ask: Ask, p: Parts, peer: Machine, told: u8, used: u8, slot: usize) -> u8
-    ensures { λ r. ⌜ r ≡ numberOf ask p peer told used slot ⌝ }
+// The number of an event, by its code; count is the machine count.
+fn number_of(ask: Ask, p: Parts, peer: Machine, told: u8, used: u8, slot: usize, count: u8) -> u8
+    ensures { λ r. ⌜ r ≡ numberOf ask p peer told used slot count ⌝ }
 {
     let code = ask.code;
     let job = p.job;
@@ -179,6 +182,7 @@ fn number_of(ask: Ask, p: Parts, peer: Machine, told: u8, used: u8, slot: usize)
         DONE => event_start_done::done_number(machine, used),
         DIE => event_admit_deliver_die::die_number(ask.a, machine),
         NOTICE => event_notice::notice_number(machine, peer, told),
+        JOIN => event_join::join_number(count, ask.a),
         _ => ask.number,
     }
 }
@@ -199,8 +203,8 @@ fn change_of(ask: Ask, p: Parts, m: Message, told: u8, low: usize, bond: Bond) -
     }
 }
 
-// The table after an accepted Die or Notice.
-fn after_death(t: Table, code: u8, a: u8, b: u8) -> Table
+// The table after an accepted Die, Notice or Join.
+fn table_after(t: Table, code: u8, a: u8, b: u8) -> Table
     requires { ⌜ Ready t ⌝ }
     requires { ⌜ indicesInRange t code a b ≡ true ⌝ }
     requires { ⌜ (DIE ≤ code) × (eventOf t code a b .number ≡ 0) ⌝ }
@@ -209,7 +213,10 @@ fn after_death(t: Table, code: u8, a: u8, b: u8) -> Table
     if code == DIE {
         return event_admit_deliver_die::died(t, a);
     }
-    event_notice::noticed(t, a, b)
+    if code == NOTICE {
+        return event_notice::noticed(t, a, b);
+    }
+    event_join::joined(t, a)
 }
 
 // The bytes of event k.
@@ -267,11 +274,11 @@ pub fn run(t: Table, s: &[u8], numbers: &mut [u8]) -> Table
         let told = u.told[told_at];
         let peer = u.machines[peer_at];
         let parts = Parts { job, machine, cell };
-        let number = number_of(ask, parts, peer, told, u.in_flight, slot);
+        let number = number_of(ask, parts, peer, told, u.in_flight, slot, u.machine_count);
         numbers[i] = number;
         if number == 0 {
             if DIE <= ask.code {
-                u = after_death(u, ask.code, ask.a, ask.b);
+                u = table_after(u, ask.code, ask.a, ask.b);
             } else {
                 let running = machine.running_job as usize;
                 let bond = u.bonds[running];

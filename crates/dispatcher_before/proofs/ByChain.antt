@@ -23,6 +23,8 @@ use Rattle.event_start_done.specs.StartDone.{startNumber, startOf, doneNumber, 
 use Rattle.event_start_done.proofs.Made.{start-number, done-number}
 use Rattle.event_notice.specs.Notice.{noticeNumber, noticeOf}
 use Rattle.event_notice.proofs.Number.{notice-number}
+use Rattle.event_join.specs.Join.{joinNumber, joinOf}
+use Rattle.event_join.proofs.Cases.{join-number}
 use Rattle.dispatcher.specs.Codes.{STEAL, lastCode}
 use Rattle.dispatcher.specs.Step.{codeOf, firstOf, secondOf, twoMachines, wellFormed, indicesInRange, eventOf, answerOf, stepOf}
 use Rattle.dispatcher.proofs.Form.{wellFormed-code}
@@ -67,6 +69,10 @@ notice-none : (n d : Machine) (told : ℕ) → NoReason (noticeNumber n d told)
 unfolding noticeNumber
 notice-none n d told = chain (not (eqb (n .alive) 1)) (eqb (d .alive) 1) (not (eqb told 0)) 12 21 22 refl refl refl
 
+join-none : (count a : ℕ) → NoReason (joinNumber count a)
+unfolding joinNumber
+join-none count a = chain (leb 16 count) (not (eqb a count)) false 26 27 0 refl refl refl
+
 -- an answer by its number, which is n
 none : (n : ℕ) (x : Answer) → NoReason n → n ≡ x .number → NoReason (x .number)
 none n x y e = sym (ap (λ (k : ℕ). isReason k) e) ∙ y
@@ -82,6 +88,7 @@ other-none t code a b i l m =
       done = λ h k c. none _ (doneOf t a) (done-none (machineAt t a) (t .«in_flight»)) (done-number t a);
       die = λ h k c. none _ (dieOf t a) (die-none a (machineAt t a)) (die-number t a);
       notice = λ h k c. none _ (noticeOf t a b) (notice-none (machineAt t a) (machineAt t b) (toldAt t a b)) (notice-number t a b);
+      join = λ c. none _ (joinOf t a) (join-none (t .«machine_count») a) (join-number t a);
     }
 
 -- ---- by the code, and by 9, 10 and 11

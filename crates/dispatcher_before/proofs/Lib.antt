@@ -3,3 +3,4 @@ pub mod ByChain
 pub mod Reasons
 pub mod Waits
 pub mod Full
+pub mod SevenEvents

@@ -2,7 +2,8 @@
 -- behaviour, which no code has, for the comparisons in Reasons.antt and Full.antt. What the requests changed is the chain of a steal's refusals:
 -- `stealNumberBefore` until 2.5, `stealNumberSince` from then until 2.10. The other definitions repeat, over any chain, event_steal's `stealOf` and
 -- those of dispatcher's Step. What the requests left alone is cited as it is today: what an accepted steal does, the other events, and 9, 10 and 11.
--- Definitions only.
+-- Event 8 came later; these answers have it as it is today, so that they differ from today's by a steal's refusals alone. How a code 8 was answered
+-- before it came is in SevenEvents.antt. Definitions only.
 use Prim.Native.Nat.{ℕ}
 use mathlib.Core.Bool.{not, cond}
 use mathlib.Core.List.{List, [], _∷_}

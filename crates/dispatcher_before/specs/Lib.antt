@@ -1,3 +1,4 @@
 pub mod Before
 pub mod Reasons
 pub mod Full
+pub mod SevenEvents

@@ -13,3 +13,4 @@ pub mod Handled
 pub mod Accepted
 pub mod Died
 pub mod Noticed
+pub mod Joined

@@ -1,10 +1,10 @@
--- What an event leaves of a snapshot's bytes: the counts, the terms, and the slots that are empty before it and after it. Assumes nothing.
+-- What an event leaves of a snapshot's bytes: the entry count, the terms, and the slots that are empty before it and after it. Assumes nothing.
 use Prim.Native.Nat.{ℕ, zero, suc, _+_, _-_, _≤_}
 use mathlib.Core.Path.{_≡_, refl, sym, ap, _∙_}
 use mathlib.Core.Bool.{true}
 use mathlib.Core.List.{List, [], _∷_, _++_, append-nil, append-assoc}
 use native.Mathlib.Omega.{arith}
-use lib.ListN.{length, getD, drop, length-append}
+use lib.ListN.{length, getD, drop, set, length-append}
 use lib.Seq.{take-at, drop-at, drop-drop}
 use Rattle.lists.proofs.Scans.{length-tabulate}
 use Rattle.text.specs.Text.{over, joined}
@@ -13,9 +13,10 @@ use Rattle.table.specs.declared.Table.{Table}
 use Rattle.table.specs.Views.{noJob, noMachine, noMessage, pastBond, messageAt}
 use Rattle.table.proofs.Long.{Long}
 use Rattle.table.proofs.Views.{Sized, entry-count-job, entry-count-machine, entry-count-pool, entry-count-told, entry-count-messages}
+use Rattle.table.proofs.Views.{entry-count-machine-count}
 use Rattle.validity.specs.Validity.{tableOk}
 use Rattle.dispatcher.specs.Step.{stepOf}
-use Rattle.dispatcher.proofs.Fixed.{Fixed, fixed-machine-count, fixed-step, step-bonds}
+use Rattle.dispatcher.proofs.Fixed.{Fixed, fixed-step, step-bonds}
 use Rattle.dispatcher.proofs.Preserved.{step-sized, step-ok}
 use Rattle.dispatcher.proofs.Ready.{passed-sized, empty-past}
 use Rattle.snapshot_read.specs.Layout.{jobsStart, bondsFrom, jobsFrom, machinesFrom, toldFrom, poolsFrom, messagesFrom, decodable, decode}
@@ -55,34 +56,36 @@ regroup a j s u m r = simp append-assoc
 
 -- ---- the bytes of a table, as what stands before the jobs, what an event may change, and the slots from n on
 
-abbrev before : Table → List ℕ
-before t = (t .«machine_count» ∷ t .«entry_count» ∷ []) ++ bondsBytes (t .bonds)
+-- of a table t, but with the machine count m
+abbrev before : ℕ → Table → List ℕ
+before m t = (m ∷ t .«entry_count» ∷ []) ++ bondsBytes (t .bonds)
 
 abbrev rest : Table → ℕ → List ℕ
 rest t n = joined (λ i. messageBytes (getD (t .messages) (n + i) noMessage)) (128 - n)
 
-whole : (t : Table) (n : ℕ) → n ≤ 128 → encode t ≡ before t ++ (changesTo t n ++ rest t n)
+whole : (t : Table) (n : ℕ) → n ≤ 128 → encode t ≡ before (t .«machine_count») t ++ (changesTo t n ++ rest t n)
 unfolding encode entriesBytes flightBytes messagesBytes
 whole t n h =
     let f : ℕ → List ℕ = λ i. messageBytes (getD (t .messages) i noMessage) in
     let e : 128 ≡ n + (128 - n) = omega arith in
     ap (λ (x : List ℕ). entriesBytes t ++ machineStateBytes t ++ (numbersBytes t ++ x)) (ap (joined f) e ∙ split f n (128 - n))
-    ∙ regroup (before t) _ (machineStateBytes t) (numbersBytes t) (joined f n) (rest t n)
+    ∙ regroup (before (t .«machine_count») t) _ (machineStateBytes t) (numbersBytes t) (joined f n) (rest t n)
 
-before-length : (t : Table) → length (before t) ≡ jobsStart
-before-length t = simp length-append (omega (arith, length-bonds (t .bonds)))
+before-length : (m : ℕ) (t : Table) → length (before m t) ≡ jobsStart
+before-length m t = simp length-append (omega (arith, length-bonds (t .bonds)))
 
 module _ (t u : Table) (n : ℕ) (h : n ≤ 128) (lt : Long t) (lu : Long u) where
-  changed : before t ≡ before u → ((i : ℕ) → n ≤ i → getD (t .messages) i noMessage ≡ getD (u .messages) i noMessage)
-      → over (encode t) jobsStart (changesTo u n) ≡ encode u
+  changed : ((m : ℕ) → before m t ≡ before m u) → ((i : ℕ) → n ≤ i → getD (t .messages) i noMessage ≡ getD (u .messages) i noMessage)
+      → over (set (encode t) 0 (u .«machine_count»)) jobsStart (changesTo u n) ≡ encode u
   changed b m =
+      let k = u .«machine_count» in
       let w : length (changesTo t n) ≡ length (changesTo u n) = length-changes t n lt ∙ sym (length-changes u n lu) in
       let r : rest t n ≡ rest u n = joined-same _ _ (128 - n) (λ i. ap messageBytes (m (n + i) (omega arith))) in
-      ap (λ (x : List ℕ). over x jobsStart (changesTo u n)) (whole t n h)
-      ∙ ap (λ (k : ℕ). over (before t ++ (changesTo t n ++ rest t n)) k (changesTo u n)) (sym (before-length t))
-      ∙ over-middle (before t) (changesTo t n) (changesTo u n) (rest t n) w
-      ∙ ap (λ (x : List ℕ). x ++ (changesTo u n ++ rest t n)) b
-      ∙ ap (λ (x : List ℕ). before u ++ (changesTo u n ++ x)) r
+      ap (λ (x : List ℕ). over (set x 0 k) jobsStart (changesTo u n)) (whole t n h)
+      ∙ ap (λ (i : ℕ). over (before k t ++ (changesTo t n ++ rest t n)) i (changesTo u n)) (sym (before-length k t))
+      ∙ over-middle (before k t) (changesTo t n) (changesTo u n) (rest t n) w
+      ∙ ap (λ (x : List ℕ). x ++ (changesTo u n ++ rest t n)) (b k)
+      ∙ ap (λ (x : List ℕ). before k u ++ (changesTo u n ++ x)) r
       ∙ sym (whole u n h)
 
 -- ---- an event
@@ -133,19 +136,19 @@ module _ (s e : List ℕ) (small : Small s) (f : decodable s ≡ true) (ok : tab
     messages = z .messages;
   }
 
-  before-same : before (decode s) ≡ before (stepOf (decode s) e .table)
-  before-same = rw (
-    fixed-step (λ t. t .«machine_count») fixed-machine-count (decode s) e,
-    fixed-step (λ t. t .«entry_count») fixed-entry-count (decode s) e,
+  before-same : (m : ℕ) → before m (decode s) ≡ before m (stepOf (decode s) e .table)
+  before-same m = rw (
+    fixed-step (λ t. t .«entry_count») fixed-entry-count entry-count-machine-count (decode s) e,
     step-bonds (decode s) e,
   ) refl
 
   pub stepped : (n : ℕ) → n ≤ 128 → decode s .«in_flight» ≤ n → stepOf (decode s) e .table .«in_flight» ≤ n
-      → over s jobsStart (changesTo (stepOf (decode s) e .table) n) ≡ encode (stepOf (decode s) e .table)
+      → let u = stepOf (decode s) e .table in
+      over (set s 0 (u .«machine_count»)) jobsStart (changesTo u n) ≡ encode u
   unfolding messageAt
   stepped n h a b =
       let u : Table = stepOf (decode s) e .table in
-      ap (λ (x : List ℕ). over x jobsStart (changesTo u n)) (sym (same-bytes s small f ok))
+      ap (λ (x : List ℕ). over (set x 0 (u .«machine_count»)) jobsStart (changesTo u n)) (sym (same-bytes s small f ok))
       ∙ changed (decode s) u n h (long-from s) long-after before-same
       (λ i k. empty-past (decode s) sized-from ok i (omega arith)
       ∙ sym (empty-past u sized-after (step-ok (decode s) e sized-from ok) i (omega arith)))
@@ -156,5 +159,6 @@ module _ (s e : List ℕ) (t : Table) (a : Answer) (f : decodable s ≡ true) (r
   pub slots-most : (t .«in_flight» ≤ 128) × (a .table .«in_flight» ≤ 128)
   slots-most = let o : tableOk (decode s) ≡ true = rw r at ok in rw (q, r) (used-from s e small f o, used-after s e small f o)
 
-  pub changes-all : (n : ℕ) → n ≤ 128 → t .«in_flight» ≤ n → a .table .«in_flight» ≤ n → over s jobsStart (changesTo (a .table) n) ≡ encode (a .table)
+  pub changes-all : (n : ℕ) → n ≤ 128 → t .«in_flight» ≤ n → a .table .«in_flight» ≤ n
+      → over (set s 0 (a .table .«machine_count»)) jobsStart (changesTo (a .table) n) ≡ encode (a .table)
   changes-all n h x y = rw (q, r) (stepped s e small f (rw r at ok) n h (rw r at x) (rw (q, r) at y))

@@ -2,7 +2,7 @@
 ghost use mathlib.Core.Path.{_≡_};
 ghost use Prim.Native.Nat.{_+_, _*_, _≤_};
 ghost use mathlib.Core.List.{_++_};
-ghost use lib.ListN.{length, getD};
+ghost use lib.ListN.{length, getD, set};
 ghost use Rattle.text.specs.Text.{over, joined, Written};
 ghost use Rattle.table.specs.Views.{noMessage};
 ghost use Rattle.snapshot_read.specs.Layout.{bondSize, jobSize, machineSize, messageSize, jobsStart, tableSize};
@@ -238,12 +238,13 @@ pub fn encode(t: Table, out: &mut [u8])
     put_flight(out, b, t, 128);
 }
 
-// Writes what an event may change: all but the counts, the terms and the slots from n on.
+// Writes what an event may change: all but the entry count, the terms and the slots from n on.
 pub fn put_changes(t: Table, n: usize, out: &mut [u8])
     requires { ⌜ (n ≤ 128) × (length (now out) ≡ tableSize) ⌝ }
-    ensures { λ _. ⌜ now (out .exit) ≡ over (now (out .entry)) jobsStart
+    ensures { λ _. ⌜ now (out .exit) ≡ over (set (now (out .entry)) 0 (t .«machine_count»)) jobsStart
         (jobsBytes (t .jobs) ++ machineStateBytes t ++ (numbersBytes t ++ joined (λ i. messageBytes (getD (t .messages) i noMessage)) n)) ⌝ }
 {
+    out[0] = t.machine_count;
     let jobs = t.jobs;
     let a = put_jobs(out, snapshot_read::JOBS_START, jobs);
     let b = put_machine_state(out, a, t);

@@ -13,7 +13,7 @@ use Rattle.table.specs.declared.Message.{Message}
 use Rattle.table.specs.declared.Table.{Table}
 use Rattle.lists.proofs.Set.{set-part}
 use Rattle.table.specs.Views.{noJob, noMachine, bondAt, jobAt, machineAt, poolAt, toldAt, messageAt, flight, withJob, withMachine, withPool}
-use Rattle.table.specs.Views.{withTold, withMessages}
+use Rattle.table.specs.Views.{withTold, withMessages, withMachineCount}
 use Rattle.table.specs.Needs.{RoomFor}
 
 -- the arrays have their lengths
@@ -48,6 +48,11 @@ sized-told t m d r s =
 pub sized-messages : (t : Table) (n : ℕ) (l : List Message) → length l ≡ 128 → n ≤ 128 → Sized t → Sized (withMessages t n l)
 unfolding withMessages
 sized-messages t n l e h s = record { jobs = s .jobs; machines = s .machines; told = s .told; pools = s .pools; messages = e; used = h }
+
+pub sized-machine-count : (t : Table) (n : ℕ) → Sized t → Sized (withMachineCount t n)
+unfolding withMachineCount
+sized-machine-count t n s =
+    record { jobs = s .jobs; machines = s .machines; told = s .told; pools = s .pools; messages = s .messages; used = s .used }
 
 -- ---- a part after its own update
 module _ (t : Table) (s : Sized t) where
@@ -321,6 +326,58 @@ pub open-messages : (t : Table) (n : ℕ) (l : List Message) → withMessages t 
 unfolding withMessages
 open-messages t n l = refl
 
+pub bond-machine-count : (t : Table) (n : ℕ) (k : ℕ) → bondAt (withMachineCount t n) k ≡ bondAt t k
+unfolding bondAt withMachineCount
+bond-machine-count t n k = refl
+
+pub job-machine-count : (t : Table) (n : ℕ) (k : ℕ) → jobAt (withMachineCount t n) k ≡ jobAt t k
+unfolding jobAt withMachineCount
+job-machine-count t n k = refl
+
+pub machine-machine-count : (t : Table) (n : ℕ) (k : ℕ) → machineAt (withMachineCount t n) k ≡ machineAt t k
+unfolding machineAt withMachineCount
+machine-machine-count t n k = refl
+
+pub pool-machine-count : (t : Table) (n : ℕ) (k i : ℕ) → poolAt (withMachineCount t n) k i ≡ poolAt t k i
+unfolding poolAt withMachineCount
+pool-machine-count t n k i = refl
+
+pub told-machine-count : (t : Table) (n : ℕ) (k i : ℕ) → toldAt (withMachineCount t n) k i ≡ toldAt t k i
+unfolding toldAt withMachineCount
+told-machine-count t n k i = refl
+
+pub message-machine-count : (t : Table) (n : ℕ) (k : ℕ) → messageAt (withMachineCount t n) k ≡ messageAt t k
+unfolding messageAt withMachineCount
+message-machine-count t n k = refl
+
+pub flight-machine-count : (t : Table) (n : ℕ) → flight (withMachineCount t n) ≡ flight t
+unfolding flight withMachineCount
+flight-machine-count t n = refl
+
+pub entry-count-machine-count : (t : Table) (n : ℕ) → withMachineCount t n .«entry_count» ≡ t .«entry_count»
+unfolding withMachineCount
+entry-count-machine-count t n = refl
+
+pub bonds-machine-count : (t : Table) (n : ℕ) → withMachineCount t n .bonds ≡ t .bonds
+unfolding withMachineCount
+bonds-machine-count t n = refl
+
+pub used-machine-count : (t : Table) (n : ℕ) → withMachineCount t n .«in_flight» ≡ t .«in_flight»
+unfolding withMachineCount
+used-machine-count t n = refl
+
+pub slots-machine-count : (t : Table) (n : ℕ) → withMachineCount t n .messages ≡ t .messages
+unfolding withMachineCount
+slots-machine-count t n = refl
+
+pub open-machine-count : (t : Table) (n : ℕ) → withMachineCount t n .«open_jobs» ≡ t .«open_jobs»
+unfolding withMachineCount
+open-machine-count t n = refl
+
+pub machine-count-same : (t : Table) (n : ℕ) → withMachineCount t n .«machine_count» ≡ n
+unfolding withMachineCount
+machine-count-same t n = refl
+
 pub ruleset views = (
   bond-job,
   bond-machine,
@@ -378,6 +435,19 @@ pub ruleset views = (
   open-pool,
   open-told,
   open-messages,
+  bond-machine-count,
+  job-machine-count,
+  machine-machine-count,
+  pool-machine-count,
+  told-machine-count,
+  message-machine-count,
+  flight-machine-count,
+  entry-count-machine-count,
+  bonds-machine-count,
+  used-machine-count,
+  slots-machine-count,
+  open-machine-count,
+  machine-count-same,
 )
 
 -- a part of the machines' records that machine m's new record has too; also where there is no machine m, since then nothing is written

@@ -4,7 +4,7 @@
 -- What document 01 lists under "The table", with the counts of "The book", and the field that holds it
 -- (j < 64 a job, m < 16 a machine, i < 128 a slot):
 --
---   "Bytes 0 and 1: machine count, 2 to 16"                          machine_count
+--   "Bytes 0 and 1: machine count, 2 to 16"                          machine_count; it grows where a machine joins (document 02, 2.6)
 --   "entry count n, 0 to 64"                                         entry_count
 --   "the terms of each entry"                                        bonds[j]; unused: 0 periods, Zero of +0
 --   "not admitted, open or priced"                                   jobs[j].state      0, 1, 2
@@ -94,8 +94,8 @@ messageAt t i = getD (t .messages) i noMessage
 unfoldable pub flight : Table → List Message
 flight t = take (t .«in_flight») (t .messages)
 
--- ---- the updates: t with another job j, machine m, cell of a pool, told flag, or messages, and all else as it was; but with another job goes the
--- number of open jobs, by its state before and after
+-- ---- the updates: t with another job j, machine m, cell of a pool, told flag, messages, or machine count, and all else as it was; but with another
+-- job goes the number of open jobs, by its state before and after
 
 unfoldable pub withJob : Table → ℕ → Job → Table
 withJob t j v =
@@ -172,9 +172,25 @@ withMessages t n l =
       «open_jobs» = t .«open_jobs»;
     }
 
+-- document 02, 2.6, "The table's machine count may grow to 16."
+unfoldable pub withMachineCount : Table → ℕ → Table
+withMachineCount t n =
+    record {
+      «machine_count» = n;
+      «entry_count» = t .«entry_count»;
+      bonds = t .bonds;
+      jobs = t .jobs;
+      machines = t .machines;
+      told = t .told;
+      pools = t .pools;
+      «in_flight» = t .«in_flight»;
+      messages = t .messages;
+      «open_jobs» = t .«open_jobs»;
+    }
+
 -- all of these at once, for a proof of code: `unfolding parts`
 unfoldable pub parts : ℕ
-unfolding bondAt jobAt machineAt poolAt toldAt messageAt flight withJob withMachine withPool withTold withMessages
+unfolding bondAt jobAt machineAt poolAt toldAt messageAt flight withJob withMachine withPool withTold withMessages withMachineCount
 parts = 0
 
 -- ---- the answer

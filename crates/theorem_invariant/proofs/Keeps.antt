@@ -9,6 +9,7 @@ use Rattle.dispatcher.proofs.ByEvent.{Preserved, by-step, by-run}
 use Rattle.protocol_preservation.proofs.Accepted.{valid-admitted, valid-stolen, valid-delivered, valid-started, valid-finished}
 use Rattle.protocol_preservation.proofs.Died.{valid-died}
 use Rattle.protocol_preservation.proofs.Noticed.{valid-noticed}
+use Rattle.protocol_preservation.proofs.Joined.{valid-joined}
 use Rattle.theorem_invariant.proofs.State.{Invariant, invariant, valid}
 use Rattle.theorem_invariant.proofs.ReservationEvents.{reservation-admitted, reservation-stolen, reservation-started, reservation-finished}
 use Rattle.theorem_invariant.proofs.ReservationDeliver.{reservation-delivered}
@@ -23,6 +24,7 @@ use Rattle.theorem_invariant.proofs.UntoldHandle.{untold-delivered}
 use Rattle.theorem_invariant.proofs.UntoldNotice.{untold-noticed}
 use Rattle.theorem_invariant.proofs.PricesEvents.{prices-admitted, prices-stolen, prices-started, prices-finished, prices-died, prices-noticed}
 use Rattle.theorem_invariant.proofs.PricesHandle.{prices-delivered}
+use Rattle.theorem_invariant.proofs.Joined.{reservation-joined, transfer-joined, untold-joined, prices-joined}
 
 pub invariant-preserved : Preserved Invariant
 invariant-preserved t e w =
@@ -52,6 +54,8 @@ invariant-preserved t e w =
       notice = λ c d.
           invariant _ (valid-noticed t v a b d) (reservation-noticed t w a b d) (transfer-noticed t w a b d) (untold-noticed t w a b d)
           (prices-noticed t w a b);
+      join = λ c d.
+          invariant _ (valid-joined t v a d) (reservation-joined t w a d) (transfer-joined t w a d) (untold-joined t w a d) (prices-joined t w a d);
     }
 
 -- any event, accepted or refused

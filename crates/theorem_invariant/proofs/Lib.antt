@@ -34,5 +34,6 @@ pub mod TransferWithout
 pub mod TransferDie
 pub mod TransferNotice
 pub mod TransferEvents
+pub mod Joined
 pub mod Keeps
 pub mod Untouched

@@ -29,7 +29,7 @@ use Rattle.theorem_invariant.proofs.Frame.{Frame, frame-refl, frame-mac
 use Rattle.theorem_invariant.proofs.Frame.{flight-enter}
 use Rattle.theorem_invariant.proofs.About.{alive-running, alive-waiting}
 use Rattle.event_admit_deliver_die.proofs.Views.{job-died, told-died, flight-died, machine-died, machine-died-other}
-use Rattle.theorem_invariant.proofs.UntoldFrame.{untold-machine, untold-job, untold-sends, copies-waiting, copies-running, copies-none}
+use Rattle.theorem_invariant.proofs.UntoldFrame.{untold-machine, untold-job, untold-sends, copies-waiting, copies-running, copies-idle}
 use Rattle.theorem_invariant.proofs.UntoldFrame.{living-untold, sender-message}
 
 module _ (t : Table) (w : Invariant t) where
@@ -95,7 +95,7 @@ module _ (t : Table) (w : Invariant t) where
       every-map (λ x. Sender t x × (notTo a x ≡ true)) (Sender t) k (λ x e. e .0)
       (every-filter (Sender t) (notTo a) (flight t) (w .untold .sender)) in
       rw (flight-died t a) (untold-machine t (died t a) (flight t) k a noMachine (told-died t a) (job-died t a)
-      (machine-died t a (w .sized) (machine-16 t w a (d .machine))) (machine-died-other t a) (copies-none t a) f (w .untold))
+      (machine-died t a (w .sized) (machine-16 t w a (d .machine))) (machine-died-other t a) (copies-idle t a 0) f (w .untold))
 
   placed-opened : (r : ℕ) → Placed t (opened r)
   unfolding opened

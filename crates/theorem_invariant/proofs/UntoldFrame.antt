@@ -12,7 +12,7 @@ use Rattle.table.specs.declared.Job.{Job}
 use Rattle.table.specs.declared.Machine.{Machine}
 use Rattle.table.specs.declared.Message.{Message}
 use Rattle.table.specs.declared.Table.{Table}
-use Rattle.table.specs.Views.{noMachine, jobAt, machineAt, toldAt, messageAt, flight, withJob, withMessages}
+use Rattle.table.specs.Views.{idleMachine, jobAt, machineAt, toldAt, messageAt, flight, withJob, withMessages}
 use Rattle.table.specs.Messages.{removeAt, send}
 use Rattle.table.specs.Needs.{RoomFor}
 use Rattle.table.specs.Parts.{reserve, release, running, waiting, message}
@@ -104,8 +104,8 @@ pub copies-reserve : (t : Table) (m : ℕ) (n : Machine) (j r th : ℕ) → r �
 unfolding reserve
 copies-reserve t m n j r th l e c = record { reserved = l; running = c .running; untold = λ f. e }
 
-pub copies-none : (t : Table) (m : ℕ) → Copies t m noMachine
-copies-none t m = record { reserved = omega arith; running = omega arith; untold = λ e. absurd (e refl) }
+pub copies-idle : (t : Table) (m alive : ℕ) → Copies t m (idleMachine alive)
+copies-idle t m alive = record { reserved = omega arith; running = omega arith; untold = λ e. absurd (e refl) }
 
 -- ---- a new message
 

@@ -5,6 +5,7 @@ use crate::damage;
 use crate::driver::{Aim, Driver};
 use crate::fields;
 use crate::inputs::{self, Draft};
+use crate::joins;
 use crate::library::{Library, PAGE_BUFFER};
 use crate::rng::Rng;
 use second::book::{self, Book};
@@ -149,7 +150,7 @@ pub fn book(trial: &mut Trial, rng: &mut Rng) -> Outcome {
     count_book(&mut trial.coverage, &bytes);
     same(&format!("book {bytes:02X?}"), trial.library.book(&bytes), number)?;
     opened(trial, rng, &bytes)?;
-    let events: Vec<u8> = (0..rng.below(12)).map(|_| rng.number(8)).collect();
+    let events: Vec<u8> = (0..rng.below(12)).map(|_| rng.number(9)).collect();
     same_page(trial, rng, &bytes, &events)?;
     Ok(1)
 }
@@ -255,15 +256,18 @@ pub fn run(trial: &mut Trial, rng: &mut Rng) -> Outcome {
     same_bytes("open", &snapshot, &table.to_bytes())?;
     same_recount(trial, &table, &snapshot)?;
     let mut driver = Driver::new(rng, aim, &table);
+    let mut joined = joins::Run::new(&table);
     let mut list = Vec::new();
     let (mut length, mut open, mut until) = (0, 0, 0);
     while !ends(rng, aim, length, &table) {
         let event = driver.next(rng, &table);
         length += 1;
         list.extend(event.get(..3).unwrap_or(&[]));
+        let before = table.clone();
         let number = step(trial, "event of a run", &mut table, &mut snapshot, &event)
             .map_err(|text| format!("event {length} {text}"))?;
         trial.coverage.answers.count(&event, number);
+        joined.event(&mut trial.coverage.joins, &before, &event, number);
         trial.coverage.table(&table);
         if table.open_jobs > open {
             (open, until) = (table.open_jobs, list.len());
@@ -277,13 +281,14 @@ pub fn run(trial: &mut Trial, rng: &mut Rng) -> Outcome {
     extend_list(rng, &mut list, &table);
     same_page(trial, rng, &bytes, &list)?;
     trial.coverage.runs += 1;
+    joined.end(&mut trial.coverage.joins);
     Ok(length)
 }
 
-/// Whether a run ends here: soon where the root alone is alive, and not before a full channel where this is
-/// the aim.
+/// Whether a run ends here: soon where the root alone is alive and no others are to join, and not before a full
+/// channel where this is the aim.
 fn ends(rng: &mut Rng, aim: Aim, length: u64, table: &Table) -> bool {
-    let root_alone = (1..table.machines).all(|machine| !table.alive(machine));
+    let root_alone = aim != Aim::Joins && (1..table.machines).all(|machine| !table.alive(machine));
     match aim {
         Aim::Flood => length >= 1400,
         _ => length >= 1000 || rng.chance(1, if root_alone { 20 } else { 400 }),
@@ -291,12 +296,17 @@ fn ends(rng: &mut Rng, aim: Aim, length: u64, table: &Table) -> bool {
 }
 
 fn book_of_run(rng: &mut Rng) -> (Vec<u8>, Aim) {
-    let aims =
-        [Aim::Mixed, Aim::Mixed, Aim::Mixed, Aim::Mixed, Aim::Mixed, Aim::Deaths, Aim::Deaths, Aim::Noise];
-    let aim = if rng.chance(1, 25) { Aim::Flood } else { rng.pick(&aims) };
+    let aim = match rng.below(25) {
+        0 => Aim::Flood,
+        1..=5 => Aim::Deaths,
+        6..=10 => Aim::Joins,
+        11..=13 => Aim::Noise,
+        _ => Aim::Mixed,
+    };
     let (machines, entries) = match (aim, inputs::sizes(rng)) {
-        (Aim::Flood, (machines, _)) => (machines.max(3), 64),
+        (Aim::Flood, (machines, _)) => (machines.max(4), 64),
         (Aim::Deaths, (_, entries)) => (16 - rng.below(9) as u16, entries.max(1)),
+        (Aim::Joins, (_, entries)) => (2 + rng.below(8) as u16, entries.max(1)),
         (_, sizes) => sizes,
     };
     (Draft::new(rng, machines, entries).bytes(), aim)
@@ -306,10 +316,10 @@ fn book_of_run(rng: &mut Rng) -> (Vec<u8>, Aim) {
 fn extend_list(rng: &mut Rng, list: &mut Vec<u8>, table: &Table) {
     if rng.chance(1, 50) {
         while list.len() < page::EVENT_BYTES - 3 + 3 * rng.below(8) {
-            list.extend([1 + rng.number(7), rng.number(table.machines), rng.number(table.machines)]);
+            list.extend([1 + rng.number(8), rng.number(table.machines + 1), rng.number(table.machines)]);
         }
     }
-    let end: [u8; 2] = [1 + rng.number(7), rng.number(2)];
+    let end: [u8; 2] = [1 + rng.number(8), rng.number(2)];
     list.extend(&end[..rng.below(3)]);
 }
 
@@ -341,7 +351,7 @@ fn met_full(table: &Table, event: &[u8]) -> Option<&'static str> {
 }
 
 /// The message that an event delivers.
-fn oldest(table: &Table, event: &[u8]) -> Option<Message> {
+pub fn oldest(table: &Table, event: &[u8]) -> Option<Message> {
     match *event {
         [3, a, b, ..] => table.in_flight().iter().find(|m| m.from == a && m.to == b).copied(),
         _ => None,
@@ -376,7 +386,7 @@ fn step(
     event: &[u8],
 ) -> Result<u8, String> {
     let oldest = oldest(table, event);
-    let before = oldest.map(|_| table.clone());
+    let before = table.clone();
     let held = steal_conditions(table, event);
     let met = met_full(table, event).filter(|_| table.full());
     let met_open = met_open_jobs(table, event);
@@ -388,9 +398,10 @@ fn step(
     if let (Some(name), 0) = (met_open, number) {
         trial.coverage.count_open_jobs(place, name);
     }
-    if let (Some(message), Some(before), 0) = (oldest, before, number) {
+    if let (Some(message), 0) = (oldest, number) {
         trial.coverage.delivered(&message, &before, table);
     }
+    trial.coverage.joins.answered(place, &before, event, number);
     if let Some(held) = held {
         trial.coverage.stolen(held);
     }
@@ -468,8 +479,10 @@ fn one_damaged(trial: &mut Trial, rng: &mut Rng, mut snapshot: Vec<u8>, event: &
                 _ => trial.coverage.no_table(snapshot.len()),
             }
             let before = snapshot.clone();
-            trial.coverage.damaged_answers.count(event, 9);
-            same(&format!("{event:?}"), trial.library.step(&mut snapshot, event), 9)?;
+            let number = read.map_or(9, |mut table| events::step(&mut table, event));
+            trial.coverage.damaged_answers.count(event, number);
+            trial.coverage.joins.refused_nine(event, fault.flatten());
+            same(&format!("{event:?}"), trial.library.step(&mut snapshot, event), number)?;
             same_bytes(&format!("{event:?} answered 9"), &snapshot, &before)
         }
     }

@@ -1,17 +1,18 @@
 //! What the input reached: printed at the end, and held to what it must reach.
 
 use crate::inputs;
+use crate::joins::Joins;
 use second::check::Fault;
 use second::table::*;
 use std::collections::BTreeMap;
 
 pub const KINDS: [&str; 10] =
     ["", "FISH", "REQ", "AUTH", "DENIED", "OBSOLETE", "SCHEDULE", "ACK", "NOWORK", "RESULT"];
-const EVENTS: [&str; 8] = ["none", "Admit", "Steal", "Deliver", "Start", "Done", "Die", "Notice"];
+pub const EVENTS: [&str; 9] = ["none", "Admit", "Steal", "Deliver", "Start", "Done", "Die", "Notice", "Join"];
 
 /// The numbers that each event can get on a table that passes check 9: document 01's last table, and
-/// document 02, 2.5, for Steal.
-const EXPECTED: [&[u8]; 8] = [
+/// document 02, 2.5, for Steal, and 2.6 for Join.
+const EXPECTED: [&[u8]; 9] = [
     &[10],
     &[0, 10, 11, 13],
     &[0, 10, 11, 12, 14, 16, 24, 25],
@@ -20,6 +21,7 @@ const EXPECTED: [&[u8]; 8] = [
     &[0, 10, 11, 12, 16, 19],
     &[0, 10, 11, 12, 20],
     &[0, 10, 11, 12, 21, 22],
+    &[0, 10, 26, 27],
 ];
 
 /// The conditions of Steal's refusals, in their order, where "full" is 128 in flight whether or not the victim
@@ -137,15 +139,15 @@ fn writer_names() -> impl Iterator<Item = &'static str> {
 }
 
 /// The largest number of an event.
-const LARGEST: usize = 25;
+const LARGEST: usize = 27;
 
-/// Answers by event code (0: no code of document 01) and number.
+/// Answers by event code (0: no code of an event) and number.
 #[derive(Default)]
-pub struct Answers([[u64; LARGEST + 1]; 8]);
+pub struct Answers([[u64; LARGEST + 1]; EVENTS.len()]);
 
 impl Answers {
     pub fn count(&mut self, event: &[u8], number: u8) {
-        let code = event.first().filter(|code| (1..=7).contains(*code)).map_or(0, |code| *code);
+        let code = event.first().filter(|code| (1..=8).contains(*code)).map_or(0, |code| *code);
         self.0[usize::from(code)][usize::from(number).min(LARGEST)] += 1;
     }
 
@@ -159,7 +161,7 @@ impl Answers {
     }
 
     fn missing(&self) -> impl Iterator<Item = String> + '_ {
-        (0..8).flat_map(move |code| {
+        (0..EVENTS.len()).flat_map(move |code| {
             let never = EXPECTED[code].iter().filter(move |&&number| self.0[code][usize::from(number)] == 0);
             never.map(move |number| format!("{} {number}", EVENTS[code]))
         })
@@ -196,6 +198,7 @@ pub struct Coverage {
     pub steals: BTreeMap<(&'static str, &'static str), u64>,
     /// By the names of `FULL`.
     pub full: BTreeMap<&'static str, u64>,
+    pub joins: Joins,
     /// Messages handled, by kind and what came of it.
     pub handled: BTreeMap<(u8, &'static str), u64>,
     pub most_in_flight: u8,
@@ -210,13 +213,13 @@ pub struct Coverage {
 }
 
 /// What of a list by places was never counted.
-fn never<P: Copy + Ord, K: Copy + Ord>(all: &[(P, &[K])], counts: &BTreeMap<(P, K), u64>) -> Vec<(P, K)> {
+pub fn never<P: Copy + Ord, K: Copy + Ord>(all: &[(P, &[K])], counts: &BTreeMap<(P, K), u64>) -> Vec<(P, K)> {
     let pairs = all.iter().flat_map(|(place, names)| names.iter().map(move |name| (*place, *name)));
     pairs.filter(|pair| !counts.contains_key(pair)).collect()
 }
 
 /// Each place of such a list with its counts.
-fn print_places<K: Copy + Ord>(
+pub fn print_places<K: Copy + Ord>(
     all: &[(&'static str, &[K])],
     counts: &BTreeMap<(&'static str, K), u64>,
     name: fn(K) -> String,
@@ -355,6 +358,7 @@ impl Coverage {
             self.runs, self.pages, self.longest_page
         );
         self.answers.print("answers to the events of runs");
+        self.joins.print();
         println!("steals with more than one of these conditions, by the first two");
         for ((first, second), count) in &self.steals {
             println!("  {first:5} {second:23} {count}");
@@ -412,6 +416,7 @@ impl Coverage {
         for (place, name) in never(&OPEN_JOBS, &self.open_jobs) {
             missing.push(format!("open jobs: {place}: {name}"));
         }
+        missing.extend(self.joins.missing());
         let names = writer_names().filter(|name| !self.writer.contains_key(name));
         missing.extend(names.map(|name| format!("entry added: {name}")));
         let lengths = OTHER_LENGTHS.iter().filter(|length| !self.lengths.contains_key(length));

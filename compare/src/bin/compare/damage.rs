@@ -23,8 +23,9 @@ pub fn benign(rng: &mut Rng, table: &mut Table) {
             let entry = rng.below(usize::from(table.entries));
             table.bonds[entry] = book::term(&inputs::term(rng)).expect("a term that passes");
         }
-        7 if rng.chance(1, 8) => {
-            while table.in_flight < 125 + rng.number(4) {
+        7 if rng.chance(1, 3) => {
+            let most = rng.pick(&[125, 126, 127, 128, 128, 128]);
+            while table.in_flight < most {
                 add_message(rng, table);
             }
         }
@@ -145,7 +146,7 @@ fn reserve_for(rng: &mut Rng, table: &mut Table, message: &Message) {
 
 /// One change that breaks a condition of row 9 which a changed field alone seldom breaks, and no other.
 pub fn targeted(rng: &mut Rng, table: &mut Table) {
-    match rng.below(10) {
+    match rng.below(11) {
         0 => silence(table, 0, true),
         1 => silence(table, 1 + rng.number(table.machines - 1), false),
         2 => misdirect(rng, table),
@@ -153,6 +154,7 @@ pub fn targeted(rng: &mut Rng, table: &mut Table) {
         4 if table.entries > 0 => pass_an_end(rng, table),
         5 | 6 => change_payments(rng, table),
         7 | 8 => miscount(rng, table),
+        9 => misname(rng, table),
         _ => {
             let (machine, of) = (rng.number(table.machines), rng.number(table.machines));
             table.told[usize::from(machine)][usize::from(of)] = 1;
@@ -176,6 +178,16 @@ fn misdirect(rng: &mut Rng, table: &mut Table) {
     let machine = rng.some(table.machines, |machine| machine != 0 && table.alive(machine));
     if let (Some(slot), Some(machine)) = (slot, machine) {
         table.messages[usize::from(slot)].to = machine;
+    }
+}
+
+/// A machine runs a job, or a message names a thief, that is one past the last.
+fn misname(rng: &mut Rng, table: &mut Table) {
+    let machine = rng.some(table.machines, |machine| table.alive(machine)).unwrap_or(0);
+    let with_thief = |message: &Message| matches!(message.kind, REQ | AUTH | DENIED | OBSOLETE);
+    match rng.some(table.in_flight, |slot| with_thief(&table.messages[usize::from(slot)])) {
+        Some(slot) if rng.chance(1, 2) => table.messages[usize::from(slot)].thief = table.machines,
+        _ => table.machine[usize::from(machine)].running = Held { job: table.entries, replica: 1, thief: 0 },
     }
 }
 

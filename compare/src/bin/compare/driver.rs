@@ -1,8 +1,9 @@
 //! Events chosen from a table's state, so that long runs of accepted events happen, mixed with events that
-//! are refused. A plan leads to what chance alone seldom reaches: many deaths, a second RESULT, a full channel.
+//! are refused. A plan leads to what chance alone seldom reaches: many deaths, a second RESULT, a full channel,
+//! machines that join one after another.
 
 use crate::rng::Rng;
-use second::table::{Table, ENTRIES};
+use second::table::{Table, ENTRIES, MACHINES};
 use std::collections::VecDeque;
 
 /// One step of a plan.
@@ -10,11 +11,13 @@ enum Task {
     Event([u8; 3]),
     /// Deliver from one machine to another until nothing is left.
     Drain(u8, u8),
+    /// Start the lowest job of a machine's pool, if there is one.
+    Start(u8),
 }
 
 pub struct Driver {
-    /// How often each of the events 1 to 7 is chosen.
-    weights: [usize; 8],
+    /// How often each of the events 1 to 8 is chosen.
+    weights: [usize; 9],
     /// How many events in 100 are noise, and how many of the others follow the plan.
     noise: usize,
     planned: usize,
@@ -29,13 +32,15 @@ pub enum Aim {
     Mixed,
     Deaths,
     Flood,
+    Joins,
     Noise,
 }
 
 impl Driver {
     pub fn new(rng: &mut Rng, aim: Aim, table: &Table) -> Driver {
-        let mut weights = [0, 9, 18, 60, 18, 15, 0, 12].map(|w: usize| w * rng.pick(&[1, 1, 1, 2, 4]));
+        let mut weights = [0, 9, 18, 60, 18, 15, 0, 12, 0].map(|w: usize| w * rng.pick(&[1, 1, 1, 2, 4]));
         weights[6] = rng.pick(&[0, 0, 1, 2]);
+        weights[8] = rng.pick(&[0, 1, 2, 6]);
         let mut driver = Driver { weights, noise: 6, planned: 0, plan: VecDeque::new(), blocked: None };
         match aim {
             Aim::Mixed => driver.blocked = rng.chance(1, 3).then(|| pair(rng, table)),
@@ -43,14 +48,17 @@ impl Driver {
             Aim::Deaths => {
                 driver.planned = 85;
                 if rng.chance(1, 2) {
-                    driver.plan_second_result();
+                    driver.plan_second_result(2);
                 }
                 driver.plan_deaths(rng, table);
             }
+            Aim::Joins => {
+                driver.planned = 80;
+                driver.plan_joins(rng, table);
+            }
             Aim::Flood => {
-                driver.planned = 97;
+                (driver.planned, driver.noise) = rng.pick(&[(97, 1), (100, 0), (100, 0)]);
                 driver.weights[6] = 0;
-                driver.noise = 1;
                 driver.plan_flood(rng, table);
             }
         }
@@ -59,18 +67,18 @@ impl Driver {
 
     /// Events for a table that no run has reached.
     pub fn plain() -> Driver {
-        let weights = [0, 2, 4, 16, 4, 4, 1, 3];
+        let weights = [0, 2, 4, 16, 4, 4, 1, 3, 2];
         Driver { weights, noise: 10, planned: 0, plan: VecDeque::new(), blocked: None }
     }
 
-    /// Machine 1 gets job 0 and hands it to machine 2, whose ACK stays in flight while machine 1 dies: the root
-    /// runs the next replica, and machine 2's RESULT finds the job priced.
-    fn plan_second_result(&mut self) {
+    /// Machine 1 gets job 0 and hands it to another, whose ACK stays in flight while machine 1 dies: the root
+    /// runs the next replica, and the other's RESULT finds the job priced.
+    fn plan_second_result(&mut self, other: u8) {
         self.plan.push_back(Task::Event([1, 0, 0]));
         self.plan_handover(0, 1, 5);
-        self.plan_handover(1, 2, 4);
+        self.plan_handover(1, other, 4);
         self.plan.extend([[6, 1, 0], [7, 0, 1]].map(Task::Event));
-        for machine in [0, 2] {
+        for machine in [0, other] {
             self.plan.extend([[4, machine, 0], [5, machine, 0]].map(Task::Event));
             self.plan.push_back(Task::Drain(machine, 0));
         }
@@ -96,9 +104,47 @@ impl Driver {
         }
     }
 
+    /// Machines join until there are 16, and one more asks. Each is named by some event before it is there and by
+    /// the same one after. It takes a job and may price a bond, and some machine may die, of which those that join
+    /// later are told or not.
+    fn plan_joins(&mut self, rng: &mut Rng, table: &Table) {
+        let mut next = table.machines;
+        if rng.chance(1, 2) {
+            self.plan.push_back(Task::Event([8, next, 0]));
+            self.plan_second_result(next);
+            next += 1;
+        }
+        for job in 0..table.entries.min(1 + rng.number(20)) {
+            self.plan.push_back(Task::Event([1, job, 0]));
+        }
+        let mut dead = Vec::new();
+        for machine in next..MACHINES as u8 {
+            let any = rng.number(machine);
+            let victim = rng.pick(&[0, 0, machine - 1, any]);
+            let early = early(rng, machine, victim);
+            self.plan.extend([early, [8, machine, 0], early].map(Task::Event));
+            let told = dead.iter().filter(|_| rng.chance(1, 3));
+            self.plan.extend(told.map(|&of| Task::Event([7, machine, of])));
+            let stages = rng.pick(&[1, 2, 3, 4, 5, 5, 5, 5]);
+            self.plan_handover(victim, machine, stages);
+            if rng.chance(2, 3) {
+                let done = Task::Event([5, machine, 0]);
+                self.plan.extend([Task::Start(machine), done, Task::Drain(machine, 0)]);
+            }
+            if rng.chance(1, 4) {
+                let of = 1 + rng.number(machine);
+                let to = rng.pick(&[0, 0, machine]);
+                self.plan.extend([[6, of, 0], [7, to, of]].map(Task::Event));
+                dead.push(of);
+            }
+        }
+        self.plan.push_back(Task::Event([8, MACHINES as u8, 0]));
+    }
+
     /// All jobs go by machine 2 to machine 1, whose messages to the root stay in flight: an ACK and a RESULT
-    /// for each. At the end every machine steals from itself. In most floods machine 3 is dead before, and
-    /// at the end they steal from it too, those who were told of it and those who were not.
+    /// for each, but for the last RESULT, whose place a FISH takes. At the end every machine steals from itself,
+    /// and one more machine joins. In most floods machine 3 is dead before, and at the end they steal from it too,
+    /// those who were told of it and those who were not.
     fn plan_flood(&mut self, rng: &mut Rng, table: &Table) {
         let with_dead = table.machines > 3 && rng.chance(2, 3);
         if with_dead {
@@ -113,12 +159,15 @@ impl Driver {
         (0..ENTRIES).for_each(|_| self.plan_handover(2, 1, 4));
         for job in 0..ENTRIES as u8 {
             self.plan.push_back(Task::Event([4, 1, job]));
+            self.plan.extend((job == 63).then_some(Task::Event([2, 2, 0])));
             self.plan.push_back(Task::Event([5, 1, 0]));
         }
         self.plan.extend((0..table.machines).map(|machine| Task::Event([2, machine, machine])));
+        self.plan.push_back(Task::Event([8, table.machines, 0]));
         if with_dead {
-            self.plan.extend((0..table.machines).map(|machine| Task::Event([2, machine, 3])));
+            self.plan.extend((0..=table.machines).map(|machine| Task::Event([2, machine, 3])));
         }
+        self.plan.push_back(Task::Event([2, table.machines, 0]));
         self.blocked = Some((1, 0));
     }
 
@@ -147,12 +196,21 @@ impl Driver {
         while let Some(task) = self.plan.front() {
             match *task {
                 Task::Drain(from, to) if in_flight(table, from, to) => return Some([3, from, to]),
-                Task::Drain(..) => self.plan.pop_front(),
                 Task::Event(event) => {
                     self.plan.pop_front();
                     return Some(event);
                 }
-            };
+                Task::Start(machine) => {
+                    self.plan.pop_front();
+                    let pool = &table.pools[usize::from(machine)];
+                    if let Some(job) = pool.iter().position(|&replica| replica != 0) {
+                        return Some([4, machine, job as u8]);
+                    }
+                }
+                Task::Drain(..) => {
+                    self.plan.pop_front();
+                }
+            }
         }
         None
     }
@@ -198,6 +256,7 @@ impl Driver {
             }
             5 => Some((rng.some(all, |m| machine(m).running.is_some())?, 0)),
             6 => Some((rng.some(all, |m| m != 0 && table.alive(m))?, 0)),
+            8 => (usize::from(all) < MACHINES).then_some((all, 0)),
             _ => {
                 let b = rng.some(all, |m| !table.alive(m))?;
                 Some((rng.some(all, |a| table.alive(a) && !table.was_told(a, b))?, b))
@@ -222,10 +281,21 @@ fn pair(rng: &mut Rng, table: &Table) -> (u8, u8) {
     (rng.number(table.machines), rng.number(table.machines))
 }
 
-/// Any event that is not refused 10, seldom a death.
+/// An event that names a machine which is not there yet, and mostly one that is.
+fn early(rng: &mut Rng, machine: u8, other: u8) -> [u8; 3] {
+    match rng.pick(&[2, 3, 4, 5, 6, 7]) {
+        code @ (2 | 3 | 7) if rng.chance(1, 2) => [code, other, machine],
+        code @ (2 | 3 | 7) => [code, machine, other],
+        code => [code, machine, 0],
+    }
+}
+
+/// Any event that is not refused 10, seldom a death. A number may be the next machine's, that of a join any.
 fn any(rng: &mut Rng, table: &Table) -> [u8; 3] {
-    let (a, b) = pair(rng, table);
-    match rng.pick(&[1, 2, 2, 2, 3, 3, 3, 4, 4, 5, 5, 6, 7, 7, 7]) {
+    let next = table.machines;
+    let (a, b) = (rng.number(next + 1), rng.number(next + 1));
+    match rng.pick(&[1, 2, 2, 2, 3, 3, 3, 4, 4, 5, 5, 6, 7, 7, 7, 8, 8, 8]) {
+        8 => [8, rng.pick(&[a, a, next + 1, next + 2, 16, 255]), 0],
         code @ (1 | 5 | 6) => [code, a, 0],
         code => [code, a, b],
     }
@@ -234,10 +304,10 @@ fn any(rng: &mut Rng, table: &Table) -> [u8; 3] {
 /// An event made from an acceptable one that is probably refused: cut, longer, a number changed or any.
 pub fn noise(rng: &mut Rng, table: &Table, mut event: [u8; 3]) -> Vec<u8> {
     let large = [table.machines - 1, table.machines, table.entries, 16, 63, 64, 255];
-    match rng.below(8) {
+    match rng.below(9) {
         0 => return event[..rng.below(3)].to_vec(),
         1 => return [&event[..], &[rng.byte(), rng.byte()]].concat(),
-        2 => event[0] = rng.pick(&[0, 1, 2, 3, 4, 5, 6, 7, 8, 9, 255]),
+        2 => event[0] = rng.pick(&[0, 1, 2, 3, 4, 5, 6, 7, 8, 8, 8, 9, 255]),
         3 => event[1] = rng.pick(&large),
         4 => event[2] = rng.pick(&large),
         5 => event[2] = rng.number(3),

@@ -13,6 +13,7 @@ mod damage;
 mod driver;
 mod fields;
 mod inputs;
+mod joins;
 mod library;
 mod rng;
 mod seeds;

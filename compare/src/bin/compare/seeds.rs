@@ -43,7 +43,7 @@ fn book_and_events(rng: &mut Rng) -> Vec<u8> {
     let book = Draft::new(rng, machines.into(), entries.into()).bytes();
     let mut input = [&(book.len() as u16).to_le_bytes()[..], &book].concat();
     let mut table = Table::open(&Book::read(&book).expect("a book that passes"));
-    let aim = rng.pick(&[Aim::Mixed, Aim::Deaths]);
+    let aim = rng.pick(&[Aim::Mixed, Aim::Deaths, Aim::Joins]);
     let mut driver = Driver::new(rng, aim, &table);
     for _ in 0..rng.below(150) {
         let event = driver.next(rng, &table);

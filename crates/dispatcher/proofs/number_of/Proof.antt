@@ -36,12 +36,17 @@ returns-7 c = rw (c .notice-number .ensures, c .before .match .keys7)
 
 returns-8 : tie.Need-returns-8
 unfolding numberOf
-returns-8 c = search flags
+returns-8 c = rw (c .join-number .ensures, c .before .match .keys8)
+
+returns-9 : tie.Need-returns-9
+unfolding numberOf
+returns-9 c = search flags
 
 pub number-of-spec : {M : Type 1} → statement M
 number-of-spec =
     tie.close
     (tie.spec
+    (λ c κs. search needs)
     (λ c κs. search needs)
     (λ c κs. search needs)
     (λ c κs. search needs)
@@ -56,4 +61,5 @@ number-of-spec =
     returns-5
     returns-6
     returns-7
-    returns-8)
+    returns-8
+    returns-9)

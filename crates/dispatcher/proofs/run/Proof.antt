@@ -177,6 +177,10 @@ answered c =
 going : (c : In-turn) → c .before .loop .k < eventCount (bytes c)
 going c = omega arith
 
+-- and the buffer has a place for the number
+place-left : (c : In-turn) → c .before .loop .k < length (c .before .loop .numbers)
+place-left c = omega (arith, going c, c .before .loop .inv .1, c .before .before .before .before .pre .1 .1)
+
 -- then one fewer
 fewer : (c : Numbered)
     → let i = turn (looking c) in
@@ -309,10 +313,10 @@ lowest-for-requires c κs =
     let f = c .before .before in
     rw (heard f) (within-any _ (measured (began f)) (passed (began f)) (f .before .loop2 .slot) .to)
 
--- ---- Die and Notice
+-- ---- Die, Notice and Join
 
-after-death-requires : tie.Need-after-death-requires Inv-loop2 μ-loop2 Inv-loop3 μ-loop3 Inv-loop μ-loop
-after-death-requires c κs =
+table-after-requires : tie.Need-table-after-requires Inv-loop2 μ-loop2 Inv-loop3 μ-loop3 Inv-loop μ-loop
+table-after-requires c κs =
     let n = c .before .before .before in
     let w = looking n in
     let y = by-value _ _ _ (looked w .asked) (c .if3 .taken) in
@@ -323,7 +327,7 @@ loop-again : tie.Need-loop-again Inv-loop2 μ-loop2 Inv-loop3 μ-loop3 Inv-loop 
 loop-again c =
     let n = c .before .before .before .before in
     let y = by-value _ _ _ (looked (looking n) .asked) (c .before .if3 .taken) in
-    again n _ (c .after-death .ensures ∙ ap (λ (x : Answer). x .table) (sym (y .1)))
+    again n _ (c .table-after .ensures ∙ ap (λ (x : Answer). x .table) (sym (y .1)))
 
 -- ---- the other events
 
@@ -424,8 +428,8 @@ run-spec =
     (λ c. let p = within-arrays (c .before .before .before .before) in search needs)
     (λ c. let p = within-arrays (c .before .before .before .before) in search needs)
     (λ c κs. search needs)
-    (λ c. search needs)
-    after-death-requires
+    (λ c. let h = place-left (turn (looking c)) in search needs)
+    table-after-requires
     (λ c. fewer (c .before .before .before .before))
     loop-again
     (λ c. search needs)
