@@ -27,7 +27,7 @@ use Rattle.protocol_preservation.proofs.Joined.{join-16, none-before, pool-none
 use Rattle.theorem_invariant.proofs.State.{valid}
 use Rattle.theorem_invariant.proofs.Keeps.{invariant-run}
 use Rattle.dispatcher.specs.Codes.{JOIN}
-use Rattle.dispatcher.specs.Step.{event, codeOf, firstOf, secondOf, wellFormed, indicesInRange, eventOf, answerOf, stepOf, runOf, isFurther}
+use Rattle.dispatcher.specs.Step.{codeOf, firstOf, secondOf, wellFormed, indicesInRange, eventOf, answerOf, stepOf, runOf, isFurther}
 use Rattle.dispatcher.proofs.Events.{by-cases}
 use Rattle.dispatcher.proofs.Fixed.{fixed-machine-count, fixed-arms}
 use Rattle.dispatcher.proofs.Preserved.{valid-passes, step-answer}
@@ -42,10 +42,16 @@ module _ (t : Table) (v : Valid t) where
   answers : (e : List ℕ) → stepOf t e ≡ answerOf t e
   answers e = step-answer t e (valid-passes t v)
 
-  -- past 10 and 11, which do not judge a
-  own : (a : ℕ) → stepOf t (event JOIN a 0) ≡ joinOf t a
-  unfolding answerOf wellFormed indicesInRange eventOf
-  own a = answers (event JOIN a 0)
+  -- by 11
+  judged : (e : List ℕ) → wellFormed e ≡ true
+      → answerOf t e ≡ cond (indicesInRange t (codeOf e) (firstOf e) (secondOf e)) (eventOf t (codeOf e) (firstOf e) (secondOf e)) (refuse 11 t)
+  unfolding answerOf
+  judged e f = byBool (indicesInRange t (codeOf e) (firstOf e) (secondOf e)) (λ g. rw (f, g)) (λ g. rw (f, g))
+
+  -- which does not judge a join
+  own : (e : List ℕ) → wellFormed e ≡ true → codeOf e ≡ JOIN → stepOf t e ≡ joinOf t (firstOf e)
+  unfolding indicesInRange eventOf
+  own e f c = answers e ∙ judged e f ∙ rw c
 
   module _ (a : ℕ) (room : t .«machine_count» < 16) (next : a ≡ t .«machine_count») where
     joining : Joining t a
@@ -57,7 +63,7 @@ module _ (t : Table) (v : Valid t) where
         let o = v .ok in
         record {
           count = machine-count-joined t a;
-          last = rw (machine-count-joined t a) (omega arith);
+          last = rw (machine-count-joined t a) (omega (arith, next));
           new = none-before t s o a joining;
           machine = machine-joined t a s (join-16 t s o a joining);
           pool = λ j l. pool-joined t a a j ∙ pool-none t s o a joining j l;
@@ -65,12 +71,12 @@ module _ (t : Table) (v : Valid t) where
           untold = λ m l. told-joined t a m a ∙ told-of-none t s o a joining m l;
         }
 
-  join : (a : ℕ) → Join t a (stepOf t (event JOIN a 0))
+  join : (a : ℕ) (x : Answer) → x ≡ joinOf t a → Join t a x
   unfolding joinOf joinNumber
-  join a = record {
-    full = λ e. own a ∙ rw (le-leb 16 (t .«machine_count») (omega arith));
-    number = λ l n. own a ∙ rw (lt-leb 16 (t .«machine_count») l, ne-eqb a (t .«machine_count») n);
-    next = λ l e. own a ∙ rw (lt-leb 16 (t .«machine_count») l, eq-eqb a (t .«machine_count») e);
+  join a x own = record {
+    full = λ e. own ∙ rw (le-leb 16 (t .«machine_count») (omega arith));
+    number = λ l n. own ∙ rw (lt-leb 16 (t .«machine_count») l, ne-eqb a (t .«machine_count») n);
+    next = λ l e. own ∙ rw (lt-leb 16 (t .«machine_count») l, eq-eqb a (t .«machine_count») e);
     added = added a;
   }
 
@@ -78,20 +84,14 @@ module _ (t : Table) (v : Valid t) where
   unfolding answerOf wellFormed
   codes e h = answers e ∙ rw (lt-leb (codeOf e) 8 h, and-false (leb 3 (length e) && leb 1 (codeOf e)))
 
-  second : (a b : ℕ) → b ≢ 0 → stepOf t (event JOIN a b) ≡ refuse 10 t
+  second : (e : List ℕ) → codeOf e ≡ JOIN → secondOf e ≢ 0 → stepOf t e ≡ refuse 10 t
   unfolding answerOf wellFormed
-  second a b n = answers (event JOIN a b) ∙ rw (ne-eqb b 0 n)
-
-  -- by 11
-  judged : (e : List ℕ) → wellFormed e ≡ true
-      → answerOf t e ≡ cond (indicesInRange t (codeOf e) (firstOf e) (secondOf e)) (eventOf t (codeOf e) (firstOf e) (secondOf e)) (refuse 11 t)
-  unfolding answerOf
-  judged e f = byBool (indicesInRange t (codeOf e) (firstOf e) (secondOf e)) (λ g. rw (f, g)) (λ g. rw (f, g))
+  second e c n = answers e ∙ rw (c, ne-eqb (secondOf e) 0 n, and-false (leb 3 (length e) && true && true))
 
   pub joinable : Joinable t
   unfolding indicesInRange
   joinable = record {
-    join = join;
+    join = λ e f c. join (firstOf e) (stepOf t e) (own e f c);
     codes = codes;
     second = second;
     current = λ e f c. answers e ∙ judged e f ∙ rw c;

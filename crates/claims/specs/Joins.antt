@@ -23,7 +23,7 @@ use Rattle.table.specs.Parts.{accept}
 use Rattle.table_opening.specs.Opening.{openOf}
 use Rattle.event_join.specs.Join.{joined}
 use Rattle.dispatcher.specs.Codes.{START, JOIN}
-use Rattle.dispatcher.specs.Step.{event, codeOf, firstOf, secondOf, wellFormed, twoMachines, eventOf, stepOf, runOf, isFurther}
+use Rattle.dispatcher.specs.Step.{codeOf, firstOf, secondOf, wellFormed, twoMachines, eventOf, stepOf, runOf, isFurther}
 use Rattle.claims.specs.History.{isAccepted, countOf}
 
 -- an accepted join
@@ -32,10 +32,10 @@ isJoin t e = isAccepted t e && eqb (codeOf e) JOIN
 
 -- "adds machine a, alive, with empty pool and told of no death": the table u after it, t being the one before
 pub record Added (t : Table) (a : ℕ) (u : Table) : Type 0 where
-  -- one machine more, the last of them
+  -- one machine more, and a is the number of the last
   pub count : u .«machine_count» ≡ t .«machine_count» + 1
-  pub last : a < u .«machine_count»
-  -- it was not there,
+  pub last : u .«machine_count» ≡ a + 1
+  -- nothing lived under that number,
   pub new : machineAt t a .alive ≡ 0
   -- it is alive, with no copy reserved or running and no wait,
   pub machine : machineAt u a ≡ idleMachine 1
@@ -57,10 +57,10 @@ pub record Join (t : Table) (a : ℕ) (x : Answer) : Type 0 where
 -- the table t of a run, whatever event comes next
 pub record Joinable (t : Table) : Type 0 where
   -- "Join's own a is judged only by the new numbers": any a
-  pub join : (a : ℕ) → Join t a (stepOf t (event JOIN a 0))
+  pub join : (e : List ℕ) → wellFormed e ≡ true → codeOf e ≡ JOIN → Join t (firstOf e) (stepOf t e)
   -- "Number 10 now accepts codes 1 to 8": not 9 and more; nor a join whose unused b is not 0
   pub codes : (e : List ℕ) → 8 < codeOf e → stepOf t e ≡ refuse 10 t
-  pub second : (a b : ℕ) → b ≢ 0 → stepOf t (event JOIN a b) ≡ refuse 10 t
+  pub second : (e : List ℕ) → codeOf e ≡ JOIN → secondOf e ≢ 0 → stepOf t e ≡ refuse 10 t
   -- "11 is judged against the current count": of events with two machine numbers, and of Start, whose b is an entry number
   pub current : (e : List ℕ) → wellFormed e ≡ true → twoMachines (codeOf e) ≡ true
       → stepOf t e ≡ cond (ltb (firstOf e) (t .«machine_count») && ltb (secondOf e) (t .«machine_count»))

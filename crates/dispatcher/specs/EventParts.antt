@@ -51,7 +51,7 @@ abbrev pub place : ℕ → ℕ → ℕ → ℕ → Place
 place m j d p = record { machine = m; job = j; told = d; peer = p }
 
 -- the machine, the job, the told flag and the second machine that an event looks at; x is the message that Deliver takes off, low the lowest job of
--- the machine that a FISH is to. Join looks at none: there is no machine a yet, and its a may be any byte
+-- the machine that a FISH is to. Join needs none of these, and its a may be any byte: its places are 0
 unfoldable pub placeOf : Ask → Message → ℕ → Place
 placeOf q x low =
     cond (eqb (q .code) ADMIT) (place 0 (q .a) 0 0)

@@ -1,6 +1,6 @@
 // The dispatcher: events on a table, one after another. Events 1 to 5 are functions of parts (crates `handler` and `event_*`): parts of the table in,
 // a change out. `run` is the one place where the parts are read and the change is made: on its own table, element by element, so that no table is
-// copied. Die, Notice and Join change other parts than these; they take a table and give one back.
+// copied. Die and Notice may change many parts, and Join the machine count; they take a table and give one back.
 ghost use mathlib.Core.Path.{_≡_};
 ghost use mathlib.Core.Bool.{true, _&&_, _||_};
 ghost use mathlib.Core.List.{_++_};
@@ -140,8 +140,8 @@ fn at(machine: usize, job: usize, told: usize, peer: usize) -> Place
     }
 }
 
-// Where an event looks. The message is the one that Deliver takes off, low the lowest job of the machine that a FISH is to. Join's a may be any byte,
-// and it looks nowhere.
+// Where an event looks. The message is the one that Deliver takes off, low the lowest job of the machine that a FISH is to. Join needs no
+// part, and its a may be any byte: its places are 0.
 fn place_of(ask: Ask, m: Message, low: usize) -> Place
     ensures { λ r. ⌜ r ≡ placeOf ask m low ⌝ }
 {

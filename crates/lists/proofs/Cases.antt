@@ -62,10 +62,6 @@ pub or-right : (a b : Bool) → b ≡ true → a || b ≡ true
 or-right true b e = refl
 or-right false b e = e
 
-pub or-false : (a : Bool) → (a || false) ≡ a
-or-false true = refl
-or-false false = refl
-
 pub or-left-false : (a b : Bool) → a || b ≡ false → a ≡ false
 or-left-false true b e = e
 or-left-false false b e = refl

@@ -1,4 +1,5 @@
--- What every update of a table keeps, every handler and every accepted event keeps: their definitions gone through once.
+-- What every update of a table but that of the machine count keeps, every handler and every accepted event but Join keeps: their definitions gone
+-- through once. Join is in Joined.antt.
 -- Assumes nothing.
 use Prim.Native.Nat.{ℕ, _+_}
 use mathlib.Core.Path.{_≡_, refl, sym, _∙_}

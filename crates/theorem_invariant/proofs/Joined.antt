@@ -1,5 +1,5 @@
--- Every clause of the invariant through Join: nothing names machine a before it joins (check 9: numbers are in range, unused parts are 0), so each
--- clause speaks of the machines that were there, and of the new one says nothing that it does not have.
+-- Every clause but W (Joined.antt of protocol_preservation) through Join: nothing names machine a before it joins (check 9: numbers are in range, unused
+-- parts are 0), so each clause is as it was of the machines that were there, and holds of a machine that has nothing.
 -- Assumes nothing.
 use mathlib.Core.Path.{_≡_, refl, sym, ap, _∙_}
 use mathlib.Core.Logic.{_≢_}

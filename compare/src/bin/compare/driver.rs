@@ -143,10 +143,10 @@ impl Driver {
 
     /// All jobs go by machine 2 to machine 1, whose messages to the root stay in flight: an ACK and a RESULT
     /// for each, but for the last RESULT, whose place a FISH takes. At the end every machine steals from itself,
-    /// and one more machine joins. In most floods machine 3 is dead before, and at the end they steal from it too,
-    /// those who were told of it and those who were not.
+    /// and one more machine asks to join. In most floods machine 3 is dead before, and at the end they steal
+    /// from it too, those who were told of it and those who were not.
     fn plan_flood(&mut self, rng: &mut Rng, table: &Table) {
-        let with_dead = table.machines > 3 && rng.chance(2, 3);
+        let with_dead = rng.chance(2, 3);
         if with_dead {
             self.plan.push_back(Task::Event([6, 3, 0]));
             let told = (0..table.machines).filter(|_| rng.chance(1, 2));
@@ -281,7 +281,7 @@ fn pair(rng: &mut Rng, table: &Table) -> (u8, u8) {
     (rng.number(table.machines), rng.number(table.machines))
 }
 
-/// An event that names a machine which is not there yet, and mostly one that is.
+/// An event that names a machine which is not there yet and, where it names two, one that is.
 fn early(rng: &mut Rng, machine: u8, other: u8) -> [u8; 3] {
     match rng.pick(&[2, 3, 4, 5, 6, 7]) {
         code @ (2 | 3 | 7) if rng.chance(1, 2) => [code, other, machine],

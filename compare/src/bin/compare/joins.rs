@@ -15,14 +15,14 @@ const SAME_EVENT: &str = "the same event, then not 11";
 const JOINED: &str = "accepted, of one that joined";
 
 const ACCEPTED: &[&str] =
-    &["nothing in flight", "some in flight", "128 in flight", "all alive", "one dead", "root alone", "16th"];
+    &["nothing in flight", "some in flight", "128 in flight", "all alive", "some dead", "root alone", "16th"];
 const REFUSED: &[&str] = &[
     "10, else accepted",
     "10, else 26",
     "10, else 27",
     "26, a is 16",
     "26 and 27",
-    "26, one dead",
+    "26, some dead",
     "27, a lives",
     "27, a is dead",
     "27, one above",
@@ -122,7 +122,7 @@ fn join(table: &Table, a: u8, number: u8) -> Vec<(&'static str, bool)> {
             ("some in flight", table.in_flight > 0),
             ("128 in flight", table.full()),
             ("all alive", !dead),
-            ("one dead", dead),
+            ("some dead", dead),
             ("root alone", (1..count).all(|machine| !table.alive(machine))),
             ("16th", usize::from(count) == MACHINES - 1),
         ],
@@ -131,7 +131,7 @@ fn join(table: &Table, a: u8, number: u8) -> Vec<(&'static str, bool)> {
             ("10, else 26", !room),
             ("10, else 27", room && a != count),
         ],
-        26 => vec![("26, a is 16", a == count), ("26 and 27", a != count), ("26, one dead", dead)],
+        26 => vec![("26, a is 16", a == count), ("26 and 27", a != count), ("26, some dead", dead)],
         _ => vec![
             ("27, a lives", a < count && table.alive(a)),
             ("27, a is dead", a < count && !table.alive(a)),
