@@ -5,7 +5,7 @@ use Prim.Native.Nat.{ℕ, _+_, _≤_}
 use mathlib.Core.Path.{_≡_, refl, sym, ap, _∙_}
 use mathlib.Core.Logic.{_≢_}
 use mathlib.Core.Bool.{Bool, true, false, not, cond, _&&_}
-use mathlib.Core.List.{List, [], _∷_}
+use mathlib.Core.List.{List}
 use native.Mathlib.Omega.{arith}
 use borrow.Author.Tests.{eqb-true, eq-eqb, ne-eqb, ltb-true, ltb-false, lt-ltb, le-ltb}
 use lib.Dec.{eqb, ltb}
@@ -24,23 +24,21 @@ use Rattle.event_steal.specs.Steal.{stolen}
 use Rattle.event_start_done.specs.StartDone.{started, finished}
 use Rattle.event_notice.specs.Notice.{noticed}
 use Rattle.event_join.specs.Join.{joined}
-use Rattle.event_join.proofs.Cases.{Joining}
+use Rattle.event_join.proofs.Cases.{Joining, join-16}
 use Rattle.event_join.proofs.Views.{machine-count-joined, machine-joined, machine-joined-other}
-use Rattle.protocol_preservation.proofs.Joined.{join-16}
 use Rattle.protocol_preservation.proofs.Facts.{told-in, told-dead}
 use Rattle.theorem_invariant.proofs.State.{Invariant, machine-16}
 use Rattle.dispatcher.proofs.Fixed.{fixed-machine-count, fixed-admitted, fixed-stolen, fixed-delivered, fixed-started, fixed-finished, fixed-died}
 use Rattle.dispatcher.proofs.Fixed.{fixed-noticed}
 use Rattle.event_admit_deliver_die.proofs.Views.{machine-died, machine-died-other}
 use Rattle.theorem_invariant.proofs.Alive.{alive-admitted, alive-stolen, alive-delivered, alive-started, alive-finished, alive-noticed}
-use Rattle.theorem_invariant.proofs.Keeps.{invariant-step}
 use Rattle.dispatcher.specs.Codes.{ADMIT, STEAL, DELIVER, START, DONE, DIE, NOTICE, JOIN}
 use Rattle.dispatcher.specs.Step.{codeOf, firstOf, secondOf, stepOf, runOf}
 use Rattle.table.proofs.Refusals.{refused-nonzero}
 use Rattle.dispatcher.proofs.Events.{by-cases}
 use Rattle.event_admit_deliver_die.proofs.Cases.{Dying}
 use Rattle.claims.specs.History.{countOf, kills}
-use Rattle.claims.proofs.Runs.{count-more, count-none}
+use Rattle.claims.proofs.Runs.{other-code, count-along}
 
 -- d is a dead machine of the table
 abbrev pub gone : Table → ℕ → Bool
@@ -89,7 +87,7 @@ deaths-joined t a w c =
     byEq d a
     (λ e. rw (
       e,
-      machine-joined t a (w .sized) (join-16 t (w .sized) (w .ok) a c),
+      machine-joined t a (w .sized) (join-16 t a c),
       and-false (ltb a (u .«machine_count»)),
       le-ltb a M (omega (arith, c .next)),
     ) refl)
@@ -108,8 +106,7 @@ module _ (t : Table) (w : Invariant t) (e : List ℕ) where
   -- an event of another kind
   not-a-death : (u : Table) (k : ℕ) → codeOf e ≡ k → eqb k DIE ≡ false → deaths u ≡ deaths t → Counted (accept u)
   not-a-death u k c n same =
-      let z : eqb (codeOf e) DIE ≡ false = ap (λ (i : ℕ). eqb i DIE) c ∙ n in
-      rw z (omega (arith, same))
+      rw (other-code (codeOf e) k DIE c n) (omega (arith, same))
 
   deaths-step : deaths (stepOf t e .table) ≡ deaths t + cond (kills t e) 1 0
   deaths-step =
@@ -133,9 +130,7 @@ module _ (t : Table) (w : Invariant t) (e : List ℕ) where
       })
 
 pub deaths-run : (t : Table) (es : List (List ℕ)) → Invariant t → deaths (runOf t es) ≡ deaths t + countOf kills t es
-unfolding runOf
-deaths-run t [] w = omega (arith, count-none kills t)
-deaths-run t (e ∷ es) w = omega (arith, deaths-run (stepOf t e .table) es (invariant-step t e w), deaths-step t w e, count-more kills t e es)
+deaths-run = count-along deaths kills (λ t e w. deaths-step t w e)
 
 -- ---- the largest replica number
 

@@ -5,7 +5,7 @@ use Prim.Native.Nat.{ℕ, _+_, _<_}
 use mathlib.Core.Path.{_≡_, ap, _∙_}
 use mathlib.Core.Logic.{_≢_}
 use mathlib.Core.Bool.{true, false, cond, _&&_}
-use mathlib.Core.List.{List, [], _∷_}
+use mathlib.Core.List.{List}
 use native.Mathlib.Omega.{arith}
 use borrow.Author.Tests.{eq-eqb, ne-eqb, le-leb, lt-leb}
 use lib.Dec.{eqb, leb}
@@ -20,10 +20,10 @@ use Rattle.table.proofs.Refusals.{refused-nonzero}
 use Rattle.table_opening.specs.Opening.{openOf}
 use Rattle.table_opening.proofs.Shown.{machine-count-fresh, opened-table}
 use Rattle.event_join.specs.Join.{joined, joinNumber, joinOf}
-use Rattle.event_join.proofs.Cases.{Joining}
+use Rattle.event_join.proofs.Cases.{Joining, join-16}
 use Rattle.event_join.proofs.Views.{machine-count-joined, machine-joined, pool-joined, told-joined}
 use Rattle.protocol_preservation.proofs.Ok.{Valid}
-use Rattle.protocol_preservation.proofs.Joined.{join-16, none-before, pool-none, told-none, told-of-none}
+use Rattle.protocol_preservation.proofs.Joined.{none-before, pool-none, told-none, told-of-none}
 use Rattle.theorem_invariant.proofs.State.{valid}
 use Rattle.theorem_invariant.proofs.Keeps.{invariant-run}
 use Rattle.dispatcher.specs.Codes.{JOIN}
@@ -33,7 +33,7 @@ use Rattle.dispatcher.proofs.Fixed.{fixed-machine-count, fixed-arms}
 use Rattle.dispatcher.proofs.Preserved.{valid-passes, step-answer}
 use Rattle.claims.specs.History.{countOf}
 use Rattle.claims.specs.Joins.{isJoin, Added, Join, Joinable, Joins}
-use Rattle.claims.proofs.Runs.{count-more, count-none}
+use Rattle.claims.proofs.Runs.{other-code, count-along}
 use Rattle.claims.proofs.Start.{start}
 
 -- ---- one event on a table that passes check 9
@@ -65,7 +65,7 @@ module _ (t : Table) (v : Valid t) where
           count = machine-count-joined t a;
           last = rw (machine-count-joined t a) (omega (arith, next));
           new = none-before t s o a joining;
-          machine = machine-joined t a s (join-16 t s o a joining);
+          machine = machine-joined t a s (join-16 t a joining);
           pool = λ j l. pool-joined t a a j ∙ pool-none t s o a joining j l;
           told = λ d l. told-joined t a a d ∙ told-none t s o a joining d l;
           untold = λ m l. told-joined t a m a ∙ told-of-none t s o a joining m l;
@@ -80,9 +80,12 @@ module _ (t : Table) (v : Valid t) where
     added = added a;
   }
 
-  codes : (e : List ℕ) → 8 < codeOf e → stepOf t e ≡ refuse 10 t
+  codes : (e : List ℕ) → leb 1 (codeOf e) && leb (codeOf e) 8 ≡ false → stepOf t e ≡ refuse 10 t
   unfolding answerOf wellFormed
-  codes e h = answers e ∙ rw (lt-leb (codeOf e) 8 h, and-false (leb 3 (length e) && leb 1 (codeOf e)))
+  codes e h =
+      answers e ∙ byBool (leb 1 (codeOf e))
+      (λ l. let m : leb (codeOf e) 8 ≡ false = rw l at h in rw (m, and-false (leb 3 (length e) && leb 1 (codeOf e))))
+      (λ l. rw (l, and-false (leb 3 (length e))))
 
   second : (e : List ℕ) → codeOf e ≡ JOIN → secondOf e ≢ 0 → stepOf t e ≡ refuse 10 t
   unfolding answerOf wellFormed
@@ -105,13 +108,8 @@ count-step t e =
     let Counted : Answer → Type 0 = λ x. x .table .«machine_count» ≡ t .«machine_count» + cond (eqb (x .number) 0 && eqb (codeOf e) JOIN) 1 0 in
     by-cases Counted t e (λ n r. rw (ne-eqb n 0 (refused-nonzero 9 n (omega arith) r)) (omega arith))
     (fixed-arms (λ s. s .«machine_count») fixed-machine-count (λ u. Counted (accept u)) t e
-    (λ u k c n same. let z : eqb (codeOf e) JOIN ≡ false = ap (λ (i : ℕ). eqb i JOIN) c ∙ n in rw z (omega (arith, same)))
+    (λ u k c n same. rw (other-code (codeOf e) k JOIN c n) (omega (arith, same)))
     (λ c d. rw (eq-eqb (codeOf e) JOIN c) (machine-count-joined t (firstOf e))))
-
-count-run : (t : Table) (es : List (List ℕ)) → runOf t es .«machine_count» ≡ t .«machine_count» + countOf isJoin t es
-unfolding runOf
-count-run t [] = omega (arith, count-none isJoin t)
-count-run t (e ∷ es) = omega (arith, count-run (stepOf t e .table) es, count-step t e, count-more isJoin t e es)
 
 -- ---- a run
 
@@ -121,10 +119,11 @@ join-apart e c = rw (c, and-false (eqb (length e) 3))
 pub machines-join : (book : List ℕ) → bookVerdict book ≡ 0 → (events : List (List ℕ)) → Joins book events
 machines-join book accepted events =
     let t = openOf book .table in
-    let w = invariant-run t events (start book accepted .invariant) in
+    let i = start book accepted .invariant in
+    let w = invariant-run t events i in
     record {
       next = joinable (runOf t events) (valid (runOf t events) w);
-      count = count-run t events ∙ ap (λ (n : ℕ). n + countOf isJoin t events)
+      count = count-along (λ u. u .«machine_count») isJoin (λ u e x. count-step u e) t events i ∙ ap (λ (n : ℕ). n + countOf isJoin t events)
           (ap (λ (u : Table). u .«machine_count») (opened-table book accepted) ∙ machine-count-fresh book);
       most = w .facts .machine-count-most;
       apart = join-apart;

@@ -34,6 +34,7 @@ use Rattle.claims.specs.History.{admits, delivers, finds, takenOff}
 use Rattle.table.proofs.Refusals.{refused-nonzero}
 use Rattle.dispatcher.proofs.Events.{by-cases}
 use Rattle.event_admit_deliver_die.proofs.Cases.{Admitting}
+use Rattle.claims.proofs.Runs.{other-code}
 use Rattle.claims.proofs.Change.{same-job, Change, job-send}
 use Rattle.claims.proofs.Change.Change.{admission, finding, other}
 use Rattle.claims.proofs.Handled.{change-delivered}
@@ -102,7 +103,7 @@ module _ (t : Table) (w : Invariant t) (j : ℕ) (l : j < 64) where
 
 -- the event has another code
 not-code : (code k m : ℕ) (c : Bool) → code ≡ k → eqb k m ≡ false → eqb code m && c ≡ false
-not-code code k m c h n = let z : eqb code m ≡ false = ap (λ (i : ℕ). eqb i m) h ∙ n in rw z refl
+not-code code k m c h n = rw (other-code code k m h n) refl
 
 -- it has this one
 is-code : (code m : ℕ) (c d : Bool) → code ≡ m → c ≡ d → eqb code m && c ≡ d

@@ -14,7 +14,7 @@ use mathlib.Core.Path.{_≡_}
 use mathlib.Core.Logic.{_≢_}
 use mathlib.Core.Bool.{Bool, true, false, cond, _&&_}
 use mathlib.Core.List.{List}
-use lib.Dec.{eqb, ltb}
+use lib.Dec.{eqb, leb, ltb}
 use Rattle.book.specs.Parts.{machineCount}
 use Rattle.table.specs.declared.Table.{Table}
 use Rattle.table.specs.declared.Answer.{Answer}
@@ -58,8 +58,8 @@ pub record Join (t : Table) (a : ℕ) (x : Answer) : Type 0 where
 pub record Joinable (t : Table) : Type 0 where
   -- "Join's own a is judged only by the new numbers": any a
   pub join : (e : List ℕ) → wellFormed e ≡ true → codeOf e ≡ JOIN → Join t (firstOf e) (stepOf t e)
-  -- "Number 10 now accepts codes 1 to 8": not 9 and more; nor a join whose unused b is not 0
-  pub codes : (e : List ℕ) → 8 < codeOf e → stepOf t e ≡ refuse 10 t
+  -- "Number 10 now accepts codes 1 to 8": no other, nor a join whose unused b is not 0
+  pub codes : (e : List ℕ) → leb 1 (codeOf e) && leb (codeOf e) 8 ≡ false → stepOf t e ≡ refuse 10 t
   pub second : (e : List ℕ) → codeOf e ≡ JOIN → secondOf e ≢ 0 → stepOf t e ≡ refuse 10 t
   -- "11 is judged against the current count": of events with two machine numbers, and of Start, whose b is an entry number
   pub current : (e : List ℕ) → wellFormed e ≡ true → twoMachines (codeOf e) ≡ true

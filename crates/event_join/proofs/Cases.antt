@@ -3,6 +3,7 @@
 use Prim.Native.Nat.{ℕ, _<_}
 use mathlib.Core.Path.{_≡_, refl, sym}
 use mathlib.Core.Bool.{not}
+use native.Mathlib.Omega.{arith}
 use borrow.Author.Tests.{eqb-true, leb-false, not-false}
 use lib.Dec.{eqb, leb}
 use Rattle.lists.proofs.Cases.{byBool}
@@ -15,6 +16,10 @@ pub record Joining (t : Table) (a : ℕ) : Type 0 where
   pub next : a ≡ t .«machine_count»
 
 module _ (t : Table) (a : ℕ) where
+  -- so it has a place in the arrays
+  pub join-16 : Joining t a → a < 16
+  join-16 c = omega (arith, c .room, c .next)
+
   pub by-join : Judged t (Joining t a) (joined t a) (joinOf t a)
   unfolding joinOf
   by-join P refused f =

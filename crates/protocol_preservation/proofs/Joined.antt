@@ -19,7 +19,7 @@ use Rattle.table.proofs.Messages.{Padded}
 use Rattle.validity_message.specs.Message.{messageOk}
 use Rattle.validity.specs.Validity.{sizesOk, maxReplica}
 use Rattle.event_join.specs.Join.{joined}
-use Rattle.event_join.proofs.Cases.{Joining}
+use Rattle.event_join.proofs.Cases.{Joining, join-16}
 use Rattle.event_join.proofs.Views.{joining, sized-joined, flight-joined, machine-count-joined, entry-count-joined, used-joined, job-joined}
 use Rattle.event_join.proofs.Views.{open-joined, machine-joined, machine-joined-other}
 use Rattle.protocol_preservation.proofs.Ok.{Ok, Counts, Valid, inFlightOk}
@@ -39,19 +39,19 @@ module _ (t : Table) (s : Sized t) (o : Ok t) (a : ℕ) (c : Joining t a) where
   f : Facts t
   f = facts t s o
 
-  pub join-16 : a < 16
-  join-16 = omega (arith, c .room, c .next)
+  a16 : a < 16
+  a16 = join-16 t a c
 
-  -- there was no machine a
+  -- nothing lived under the number a
   pub none-before : machineAt t a .alive ≡ 0
   none-before =
       byEq (machineAt t a .alive) 1
-      (λ e. absurd (omega (arith, f .machine a join-16 .alive-in e, c .next)))
-      (λ e. omega (arith, f .machine a join-16 .alive))
+      (λ e. absurd (omega (arith, f .machine a a16 .alive-in e, c .next)))
+      (λ e. omega (arith, f .machine a a16 .alive))
 
   -- "with empty pool"
   pub pool-none : (j : ℕ) → j < 64 → poolAt t a j ≡ 0
-  pool-none j l = f .pool-dead a j join-16 l none-before
+  pool-none j l = f .pool-dead a j a16 l none-before
 
   -- what was told has to do with machines that are there
   told-there : (m d : ℕ) → m < 16 → d < 16 → toldAt t m d ≢ 0 → (m < t .«machine_count») × (d < t .«machine_count»)
@@ -59,10 +59,10 @@ module _ (t : Table) (s : Sized t) (o : Ok t) (a : ℕ) (c : Joining t a) where
 
   -- "and told of no death"; and nobody was told of it
   pub told-none : (d : ℕ) → d < 16 → toldAt t a d ≡ 0
-  told-none d l = byEq (toldAt t a d) 0 (λ e. e) (λ n. absurd (omega (arith, told-there a d join-16 l n .0, c .next)))
+  told-none d l = byEq (toldAt t a d) 0 (λ e. e) (λ n. absurd (omega (arith, told-there a d a16 l n .0, c .next)))
 
   pub told-of-none : (m : ℕ) → m < 16 → toldAt t m a ≡ 0
-  told-of-none m l = byEq (toldAt t m a) 0 (λ e. e) (λ n. absurd (omega (arith, told-there m a l join-16 n .1, c .next)))
+  told-of-none m l = byEq (toldAt t m a) 0 (λ e. e) (λ n. absurd (omega (arith, told-there m a l a16 n .1, c .next)))
 
   -- ---- check 9
 
@@ -93,7 +93,7 @@ module _ (t : Table) (s : Sized t) (o : Ok t) (a : ℕ) (c : Joining t a) where
         job = λ j l. simp (joining, q) (job-up M N E B B w h j (jobAt t j) (o .job j l));
         machine = λ m l. simp (joining, q) (
             byEq m a
-            (λ e. rw (e, machine-joined t a s join-16) (rw (lt-ltb a N (omega (arith, c .next)), le-leb 0 N (omega arith)) refl))
+            (λ e. rw (e, machine-joined t a s a16) (rw (lt-ltb a N (omega (arith, c .next)), le-leb 0 N (omega arith)) refl))
             (λ e. rw (machine-joined-other t a m e) (machine-up M N E B B w h m (machineAt t m) (o .machine m l))));
         pool = λ m j l k. simp (joining, q) (
             byEq m a

@@ -16,10 +16,9 @@ use Rattle.table.specs.declared.Table.{Table}
 use Rattle.table.specs.Views.{idleMachine, jobAt, machineAt, flight}
 use Rattle.table.specs.Parts.{reserves, REQ, ACK}
 use Rattle.event_join.specs.Join.{joined}
-use Rattle.event_join.proofs.Cases.{Joining}
+use Rattle.event_join.proofs.Cases.{Joining, join-16}
 use Rattle.event_join.proofs.Views.{bond-joined, job-joined, pool-joined, told-joined, flight-joined, machine-joined, machine-joined-other}
 use Rattle.protocol_preservation.proofs.Facts.{MessageFacts}
-use Rattle.protocol_preservation.proofs.Joined.{join-16}
 use Rattle.theorem_invariant.proofs.State.{ReservationMatched, Transfer, Untold, Prices, Invariant, isAnswer, about, ackFrom, dead, has, held}
 use Rattle.theorem_invariant.proofs.About.{reserves-none}
 use Rattle.theorem_invariant.proofs.TransferLaws.{dead-same, has-same}
@@ -38,7 +37,7 @@ ack-others j r a x f = rw (ne-eqb (x .from) a f, and-false (eqb (x .kind) ACK))
 
 module _ (t : Table) (w : Invariant t) (a : ℕ) (c : Joining t a) where
   a16 : a < 16
-  a16 = join-16 t (w .sized) (w .ok) a c
+  a16 = join-16 t a c
 
   -- machine a is none of those that were there
   others : (m : ℕ) → m < t .«machine_count» → m ≢ a

@@ -2,9 +2,8 @@
 -- Assumes nothing.
 use Prim.Native.Nat.{ℕ}
 use mathlib.Core.Path.{_≡_, ap, _∙_}
-use native.Mathlib.Omega.{arith}
 use Rattle.event_join.specs.Join.{joined}
-use Rattle.event_join.proofs.Cases.{Joining}
+use Rattle.event_join.proofs.Cases.{Joining, join-16}
 use Rattle.dispatcher.proofs.Accepted.{table-die, table-notice, table-join, late-join}
 use Rattle.dispatcher.proofs.Numbers.{machines-below}
 use Rattle.dispatcher.specs.Step.{twoMachines, eventOf}
@@ -33,7 +32,7 @@ joins c = let p = c .before .before .pre in
     table-join _ _ _ _ (p .1 .0) (p .1 .1 .1) (late-join _ _ _ _ (p .1 .1 .0) (c .before .if1 .left) (c .if2 .left) (p .1 .1 .1))
 
 joined-requires : tie.Need-joined-requires
-joined-requires c κs = let y = joins c .0 in (omega (arith, y .room, y .next), y .room)
+joined-requires c κs = let y = joins c .0 in (join-16 _ _ y, y .room)
 
 returns-3 : tie.Need-returns-3
 returns-3 c = c .joined .ensures ∙ joins (c .before) .1
