@@ -1,6 +1,7 @@
 // The dispatcher: events on a table, one after another. Events 1 to 5 are functions of parts (crates `handler` and `event_*`): parts of the table in,
 // a change out. `run` is the one place where the parts are read and the change is made: on its own table, element by element, so that no table is
 // copied. Die and Notice may change many parts, and Join the machine count; they take a table and give one back.
+#![tactic(auto)]
 ghost use Rattle.std.specs.Prelude.{◌≡◌, true, ◌&&◌, ◌||◌, ◌++◌, ◌*◌, ◌≤◌, ◌<◌, eqb, leb, length, drop};
 ghost use Rattle.validity.specs.Validity.{table_ok};
 ghost use Rattle.table.specs.Needs.{Ready};

@@ -1,6 +1,6 @@
 -- The form of an identifier: `all_in` character by character, its parts of two and of one, and what it says of each character. Assumes nothing.
 use mathlib.Core.Path.{◌≡◌, sym, ap, ◌∙◌}
-use mathlib.Core.Bool.{Bool, true, ◌&&◌, and_true, and_assoc}
+use mathlib.Core.Bool.{Bool, true, ◌&&◌, and-true, and_assoc}
 use mathlib.Core.List.{List, [], ◌∷◌}
 use Prim.Native.Nat.{ℕ, zero, suc, ◌+◌, ◌-◌, ◌<◌, ◌≤◌}
 use native.Mathlib.Nat.{le_of_suc-le-suc, not-suc-le-zero}
@@ -25,7 +25,7 @@ first lo hi b bs = sym (and_assoc (leb lo (value_of b)) (leb (value_of b) hi) (a
 -- one character
 pub one : (lo hi b : ℕ) → all_in lo hi (b ∷ []) ≡ within lo hi b
 unfolding all_in
-one lo hi b = first lo hi b [] ∙ and_true (within lo hi b)
+one lo hi b = first lo hi b [] ∙ and-true (within lo hi b)
 
 -- a is what is known of those before i
 module _ (s : List ℕ) (i : ℕ) (a : Bool) where
@@ -34,7 +34,7 @@ module _ (s : List ℕ) (i : ℕ) (a : Bool) where
 
   pub ends : length s ≤ i → a && all_in 0 35 (drop i s) ≡ a
   unfolding all_in
-  ends h = rw (drop_of_length-le s {i = i} h, and_true)
+  ends h = rw (drop_of_length-le s {i = i} h, and-true)
 
 -- ---- the parts of two characters and of one
 

@@ -1,4 +1,5 @@
 // A run as it is printed: the events of a list, one after another, on a table that passes check 9, and the lines of those that are refused.
+#![tactic(auto)]
 ghost use Rattle.std.specs.Prelude.{◌≡◌, true, ℕ, ◌*◌, ◌≤◌, ◌<◌, length, get_or};
 ghost use Rattle.text.specs.Text.{Written};
 ghost use Rattle.validity.specs.Validity.{table_ok};

@@ -1,6 +1,7 @@
 // The price of a bond, struck on a coupon date after payment: document 01's formula with document 02's payments per year, in binary64, each
 // operation rounded once, in its order.
 // No function asks anything of its caller: a price is defined for every bond, also for one whose terms are out of range.
+#![tactic(auto)]
 ghost use Rattle.std.specs.Prelude.{◌≡◌};
 ghost use Rattle.std.specs.Float.{binary64};
 ghost use Rattle.std.specs.Float.Ieee.{to_bits};

@@ -2,6 +2,7 @@
 // pool of that machine, and at most one message, and it changes no more than these and the messages in flight. So the handlers and these events are
 // functions of parts: the parts in, a change out. Where the parts stand in the table, and making the change on it, are the matter of one loop
 // (crate `dispatcher`), which copies no table.
+#![tactic(auto)]
 ghost use Rattle.std.specs.Prelude.{◌≡◌};
 ghost use Rattle.protocol_change.specs.Change.{silent};
 

@@ -1,6 +1,7 @@
 // A machine's pool: a copy enters, the lowest job, the reserved copy returns, the pool is cleared; an open job opened again on the root.
 // Each public function equals the definition of its name in the crate `table`; `open_on_root` equals its `enter` after `with_job`, and `lowest`, which
 // is lent the pools, the definition in specs/Lowest.antt.
+#![tactic(auto)]
 ghost use Rattle.std.specs.Prelude.{◌≡◌, ◌<◌, max};
 ghost use Rattle.table.specs.Views.{job_at, machine_at, with_job};
 ghost use Rattle.table.specs.Pools.{enter, clear_pool, returned};

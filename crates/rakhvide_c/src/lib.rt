@@ -1,5 +1,6 @@
 // The C interface: what a program in C or Rust calls of Rakhvide, under the names that include/rakhvide.h declares.
 // Each function is one of the crates below under a plain name; no function asks anything of its numbers or bytes.
+#![tactic(auto)]
 ghost use Rattle.std.specs.Prelude.{◌≡◌, true, length, take};
 ghost use Rattle.std.specs.Float.{binary64};
 ghost use Rattle.std.specs.Float.Ieee.{to_bits};

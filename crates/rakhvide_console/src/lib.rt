@@ -1,5 +1,6 @@
 // The program's reading and writing. What it prints is a function of the two files alone (crate page). What stands in the way of reading or writing
 // is said on standard error, since a program has no exit status here.
+#![tactic(auto)]
 ghost use Rattle.std.specs.Prelude.{◌≡◌};
 ghost use Rattle.io.specs.Counts.{IsPrefixLen};
 ghost use Rattle.page.specs.Page.{page_of};

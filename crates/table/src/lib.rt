@@ -2,6 +2,7 @@
 // The compiler copies a parameter that is indexed, whole: a function that reads one array often takes it into a variable first, and one that writes the
 // table, the table.
 // What each field holds is listed at the head of specs/Views.antt. What is unused is 0 throughout.
+#![tactic(auto)]
 ghost use Rattle.std.specs.Prelude.{◌≡◌, ◌≤◌, ◌<◌};
 ghost use Rattle.table.specs.States.{OPEN, opens, open_after};
 ghost use Rattle.table.specs.Views.{idle_machine, refuse};

@@ -6,6 +6,7 @@
 // refused book; how many questions are asked. Then come the book and the questions.
 // A question has 25 bytes: an entry number in four; the number that goes with its identifier; the identifier; the bits of its price.
 // The last two are 0 where the number is not 0. All is little-endian.
+#![tactic(auto)]
 mod calls;
 
 ghost use Rattle.std.specs.Prelude.{◌≡◌, ◌≤◌, ◌<◌, length};

@@ -1,4 +1,5 @@
 // What the programs that run outside cases share: reading a data file, and printing counts.
+#![tactic(auto)]
 ghost use Rattle.io.specs.Counts.{IsPrefixLen};
 
 use libc::STDOUT_FILENO;

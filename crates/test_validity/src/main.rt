@@ -3,6 +3,7 @@
 // tools/validity_cases.py writes the cases, and what is expected of each by document 01's text.
 //
 // A case has 72 bytes: a label of 40, filled up with spaces; eight changes of 4, those not used 0.
+#![tactic(auto)]
 mod tables;
 
 use libc::STDOUT_FILENO;

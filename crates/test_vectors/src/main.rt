@@ -7,6 +7,7 @@
 // Of an identifier the class is the expected verdict; then come the length of the text, and the text filled up with 0.
 // Of a term the class is 1 for a zero-coupon bond, 2 for a fixed coupon bond, 7 for a refusal; then come the 19 bytes of the term,
 // 4 bytes 0, and the bits of the expected price, little-endian, 0 for a refusal.
+#![tactic(auto)]
 ghost use Rattle.std.specs.Prelude.{◌≡◌, length};
 
 use book_term::Reading;

@@ -8,3 +8,4 @@
 // Flight, Frame, Received, NoticeLocal,       what sending, the handlers and the events do to the table, through its views
 // Reissued, About, Alive
 // proofs/Untouched.antt                       a RESULT changes no job that is not open
+#![tactic(auto)]

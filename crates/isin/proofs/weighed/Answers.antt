@@ -1,6 +1,5 @@
 -- `isin::weighed` meets its contract. The table's rule, that the entry at d is the sum of the digits of twice d, is one test, computed over the ten
 -- entries and then handed to any one of them. Assumes nothing.
-use borrow.Author.Rules.{rules}
 use borrow.Author.Tests.{eqb-true, ltb-true}
 use mathlib.Core.Path.{◌≡◌, refl, sym, ap, ◌∙◌}
 use mathlib.Core.Bool.{Bool, true, ◌&&◌}
@@ -12,8 +11,7 @@ use Rattle.lists.specs.Scan.{all}
 use Rattle.lists.proofs.Scans.{all_at}
 use Rattle.lists.proofs.Cases.{and_left, and_right}
 use Rattle.isin.specs.Isin.{doubled, weight}
-use Rattle.isin.proofs.weighed.Statement.{statement}
-use Rattle.isin.proofs.weighed.Tie as tie
+use Rattle.isin.proofs.weighed.Goals as goal
 
 -- the constant of the code
 table : List ℕ
@@ -35,12 +33,12 @@ rule d h =
     let e : eqb x (doubled d) && ltb x 10 ≡ true = all_at right 10 d computed h in
     (eqb-true _ _ (and_left (eqb x (doubled d)) (ltb x 10) e), ltb-true _ _ (and_right (eqb x (doubled d)) (ltb x 10) e))
 
-returns : tie.Need-returns
+pub returns-then-twice : goal.returns-then-twice
 unfolding table
-returns c =
-    let a = c.before.args in
-    let r = rule a.d c.before.requires in
-    (r.0 ∙ sym (ap (λ (t : Bool). weight t a.d) c.if1.true), r.1)
-
-pub weighed-spec : {M : Type 1} → statement M
-weighed-spec = tie.close (tie.spec (λ c. search rules) returns (λ c. search rules))
+returns-then-twice c =
+    let a = c.args in
+    let r = rule a.d c.requires in
+    record {
+      value = r.0 ∙ sym (ap (λ (t : Bool). weight t a.d) c.if-twice.true);
+      upper_bound = r.1;
+    }
