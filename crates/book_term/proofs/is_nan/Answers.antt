@@ -2,11 +2,7 @@
 use mathlib.Core.Path.{sym}
 use lib.Ieee.{binary64}
 use lib.Ieee.Bits.{nan_bits_above}
-use Rattle.book_term.proofs.is_nan.Statement.{statement}
-use Rattle.book_term.proofs.is_nan.Tie as tie
+use Rattle.book_term.proofs.is_nan.Goals as goal
 
-returns : tie.Need-returns
+pub returns : goal.returns
 returns c = sym (nan_bits_above binary64 c.args.bits)
-
-pub is-nan-spec : {M : Type 1} → statement M
-is-nan-spec = tie.close (tie.spec returns)
