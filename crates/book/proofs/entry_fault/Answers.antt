@@ -14,8 +14,7 @@ passed c = sym c.verdict-v.ensures ∙ c.if-v-ne0.false
 term_is : (c : After-read-t) → let a = c.args in
     entry_fault a.s.now a.n a.id.now a.term.now ≡ term_number c.read-t.result
 term_is c =
-    let l = c.before in
-    by_term _ _ _ _ (passed (goal.at.After-read-t c).Else-v-ne0) (sym l.holds.ensures ∙ l.if-holds.false) ∙ ap term_number (sym c.read-t.ensures)
+    by_term _ _ _ _ (passed (goal.at.After-read-t c).Else-v-ne0) (sym c.holds.ensures ∙ c.if-holds.false) ∙ ap term_number (sym c.read-t.ensures)
 
 pub returns-then-v-ne0 : goal.returns-then-v-ne0
 returns-then-v-ne0 c = let e = c.verdict-v.ensures in e ∙ sym (by_identifier _ _ _ _ (λ z. c.if-v-ne0.true (e ∙ z)))

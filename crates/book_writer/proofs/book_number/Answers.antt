@@ -33,7 +33,6 @@ faultless s id term n r e k z = rw (← k, ← e) z
 longer-is : (c : Else-f-ne0) → let a = c.args in
     length (grown a.s.now a.id.now a.term.now) ≡ length a.s.now + 31
 longer-is c =
-    let l = c.before.before.before.before in
     longer _ _ _ (accepted (goal.at.Else-f-ne0 c).Else-v-ne0) (faultless _ _ _ _ _ c.entry_fault-f.ensures (count-is (goal.at.Else-f-ne0 c).Else-v-ne0) c.if-f-ne0.false)
 
 -- and what is left of the definition is the test of the room
@@ -41,7 +40,6 @@ room-left : (c : Else-f-ne0) → let a = c.args in
     book_number a.s.now a.size a.id.now a.term.now ≡ cond (ltb a.size (length a.s.now + 31)) 23 0
 unfolding book_number
 room-left c =
-    let l = c.before.before.before.before in
     rw (
       eq-eqb _ _ (accepted (goal.at.Else-f-ne0 c).Else-v-ne0),
       longer-is c,
@@ -67,15 +65,14 @@ returns-then-v-ne0 c = rw (← c.verdict-v.ensures, ne_eqb _ _ c.if-v-ne0.true)
 
 pub returns-then-n-ge64 : goal.returns-then-n-ge64
 unfolding book_number
-returns-then-n-ge64 c = let l = c.before.before in rw (eq-eqb _ _ (accepted (goal.at.returns-then-n-ge64 c).Else-v-ne0), ← count-is (goal.at.returns-then-n-ge64 c).Else-v-ne0, le-leb _ _ c.if-n-ge64.true)
+returns-then-n-ge64 c = rw (eq-eqb _ _ (accepted (goal.at.returns-then-n-ge64 c).Else-v-ne0), ← count-is (goal.at.returns-then-n-ge64 c).Else-v-ne0, le-leb _ _ c.if-n-ge64.true)
 
 pub entry_fault-f-requires : goal.entry_fault-f-requires
-entry_fault-f-requires c = let l = c.before.before in omega (arith, whole_length _ (accepted (goal.at.entry_fault-f-requires c).Else-v-ne0), count-is (goal.at.entry_fault-f-requires c).Else-v-ne0)
+entry_fault-f-requires c = omega (arith, whole_length _ (accepted (goal.at.entry_fault-f-requires c).Else-v-ne0), count-is (goal.at.entry_fault-f-requires c).Else-v-ne0)
 
 pub returns-then-f-ne0 : goal.returns-then-f-ne0
 unfolding book_number
 returns-then-f-ne0 c =
-    let l = c.before.before.before.before in
     rw (
       eq-eqb _ _ (accepted (goal.at.returns-then-f-ne0 c).Else-v-ne0),
       ← count-is (goal.at.returns-then-f-ne0 c).Else-v-ne0,

@@ -14,17 +14,15 @@ pub loop-i-init : goal.loop-i-init
 loop-i-init c = (search rules, search rules, move_none _ _ _, refl)
 
 pub loop-i-preserved : goal.loop-i-preserved
-loop-i-preserved c =
-    let l = c.before.before in (
-      omega arith,
-      omega arith,
-      move_more _ l.loop-i.i _ _ _ _ (omega arith) l.loop-i.invariant.1 (search rules) l.loop-i.invariant.2,
-      rw length-set l.loop-i.invariant.3,
-    )
+loop-i-preserved c = (
+  omega arith,
+  omega arith,
+  move_more _ c.loop-i.i _ _ _ _ (omega arith) c.loop-i.invariant.1 (search rules) c.loop-i.invariant.2,
+  rw length-set c.loop-i.invariant.3,
+)
 
 pub returns : goal.returns
 returns c =
-    let l = c.before in
-    let a = l.args in
-    l.loop-i.invariant.2
-    ∙ ap (λ (k : ℕ). over a.out.now (k + a.by) (part a.out.now k a.to)) (le_antisymm c.loop-i-test.false l.loop-i.invariant.0)
+    let a = c.args in
+    c.loop-i.invariant.2
+    ∙ ap (λ (k : ℕ). over a.out.now (k + a.by) (part a.out.now k a.to)) (le_antisymm c.loop-i-test.false c.loop-i.invariant.0)

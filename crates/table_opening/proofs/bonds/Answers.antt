@@ -37,13 +37,12 @@ bounds-out-i c = omega (arith, below (goal.at.bounds-out-i c).In-loop-i, entry_c
 
 pub loop-i-preserved : goal.loop-i-preserved
 loop-i-preserved c =
-    let l = c.before.before in
-    let s = l.args.s.now in (
-      l.loop-i.invariant.0,
+    let s = c.args.s.now in (
+      c.loop-i.invariant.0,
       search tests,
-      ap (λ (b : Bond). set l.loop-i.out l.loop-i.i b)
-          (c.term_bond_at.ensures ∙ bond_counted s l.loop-i.i _ l.loop-i.invariant.0 (below (goal.at.loop-i-preserved c).In-loop-i))
-          ∙ tabulate_more (bond_of s) 64 no_bond l.loop-i.i l.loop-i.out (omega (arith, below (goal.at.loop-i-preserved c).In-loop-i, entry_count_most s)) l.loop-i.invariant.2,
+      ap (λ (b : Bond). set c.loop-i.out c.loop-i.i b)
+          (c.term_bond_at.ensures ∙ bond_counted s c.loop-i.i _ c.loop-i.invariant.0 (below (goal.at.loop-i-preserved c).In-loop-i))
+          ∙ tabulate_more (bond_of s) 64 no_bond c.loop-i.i c.loop-i.out (omega (arith, below (goal.at.loop-i-preserved c).In-loop-i, entry_count_most s)) c.loop-i.invariant.2,
     )
 
 pub returns : goal.returns
