@@ -2,6 +2,7 @@
 // An event is a number, by the chain of its refusals in document 01's order, and what it makes where that number is 0: a change of the table's parts.
 // Deliver's change is the handler's (crate `handler`); Die changes more than parts, and takes a table that passed check 9 by value.
 #![tactic(auto)]
+
 ghost use Rattle.std.specs.Prelude.{◌≡◌, ◌<◌, ◌≤◌};
 ghost use Rattle.event_admit_deliver_die.specs.AdmitDeliverDie.{admit_number, deliver_number, died, die_number};
 ghost use Rattle.event_admit_deliver_die.specs.AdmitDeliverDieParts.{admit_change};

@@ -1,6 +1,7 @@
 // Event 8, Join: its number, by the chain of its refusals in document 02's order, and the table that it makes where that number is 0. It changes the
 // machine count, and so takes a table by value, as Die does.
 #![tactic(auto)]
+
 ghost use Rattle.std.specs.Prelude.{◌≡◌, ◌<◌};
 ghost use Rattle.event_join.specs.Join.{joined, join_number};
 

@@ -1,5 +1,6 @@
 // Event 7: a machine is told that another is dead. The four things that every machine then does, and what the root does besides.
 #![tactic(auto)]
+
 ghost use Rattle.std.specs.Prelude.{◌≡◌, ℕ, ◌<◌, ◌≤◌};
 ghost use Rattle.table.specs.Views.{job_at, machine_at};
 ghost use Rattle.table.specs.Needs.{Ready};

@@ -1,6 +1,7 @@
 // Events 4 and 5 by the parts of a table that they look at: Start and Done. An event is a number, by the chain of its refusals in document 01's
 // order, and the change that it makes where that number is 0.
 #![tactic(auto)]
+
 ghost use Rattle.std.specs.Prelude.{◌≡◌};
 ghost use Rattle.event_start_done.specs.StartDone.{start_number, done_number};
 ghost use Rattle.event_start_done.specs.StartDoneParts.{start_change, done_change};

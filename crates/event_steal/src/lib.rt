@@ -1,6 +1,7 @@
 // Event 2 by the parts of a table that it looks at: its number, by its refusals in document 01's order, and the change that it makes where that
 // number is 0.
 #![tactic(auto)]
+
 ghost use Rattle.std.specs.Prelude.{◌≡◌, ◌<◌};
 ghost use Rattle.event_steal.specs.Steal.{steal_number};
 ghost use Rattle.event_steal.specs.StealParts.{steal_change};

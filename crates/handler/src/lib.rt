@@ -1,6 +1,7 @@
 // What a machine does with a message that is delivered to it, by kind, and which parts of the table it is about. Each function equals the definition
 // of its name in specs/HandlerParts.antt; made on a table, the change is what specs/Handler.antt says (proofs/Made.antt).
 #![tactic(auto)]
+
 ghost use Rattle.std.specs.Prelude.{◌≡◌, ◌<◌};
 ghost use Rattle.handler.specs.HandlerParts.{lowest_for, handled_job, handle_change};
 

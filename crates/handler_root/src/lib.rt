@@ -1,6 +1,7 @@
 // What the root does with a message that only the root receives: REQ, ACK and RESULT. Each function equals the definition of its change in
 // specs/RootParts.antt; made on a table, the change is what specs/Root.antt says (proofs/Made.antt).
 #![tactic(auto)]
+
 ghost use Rattle.std.specs.Prelude.{◌≡◌};
 ghost use Rattle.handler_root.specs.RootParts.{answer, req_change, ack_change, result_change};
 

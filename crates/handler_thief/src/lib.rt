@@ -1,6 +1,7 @@
 // What a thief does with the answer to its FISH: SCHEDULE or NOWORK. Each function equals the definition of its change in specs/ThiefParts.antt;
 // made on a table, the change is what specs/Thief.antt says (proofs/Made.antt).
 #![tactic(auto)]
+
 ghost use Rattle.std.specs.Prelude.{◌≡◌};
 ghost use Rattle.handler_thief.specs.ThiefParts.{schedule_change, no_work_change};
 

@@ -1,6 +1,7 @@
 // What a victim does with a message: FISH from a thief, and the root's answers AUTH, DENIED and OBSOLETE. Each function equals the definition of its
 // change in specs/VictimParts.antt; made on a table, the change is what specs/Victim.antt says (proofs/Made.antt).
 #![tactic(auto)]
+
 ghost use Rattle.std.specs.Prelude.{◌≡◌};
 ghost use Rattle.table.specs.Parts.{release, reserves};
 ghost use Rattle.handler_victim.specs.VictimParts.{

@@ -7,9 +7,9 @@ use Rattle.event_notice.proofs.noticed.Goals as goal
 
 pub notice_local-u-requires : goal.notice_local-u-requires
 notice_local-u-requires c = record {
-      a_bound = search tests;
-      reserved_job_bound = c.requires.ready.reserved _ (search tests);
-    }
+  a_bound = search tests;
+  reserved_job_bound = c.requires.ready.reserved _ (search tests);
+}
 
 pub reissue-requires : goal.reissue-requires
 reissue-requires c = λ j h. rw (c.notice_local-u.ensures, job_notice_local) (c.requires.ready.replicas j h)

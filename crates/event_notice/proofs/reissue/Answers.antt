@@ -1,6 +1,5 @@
 -- `event_notice::reissue` meets its contract. The loop keeps: the jobs before j have had their turn.
 -- Assumes nothing.
-use Prim.Native.Nat.{◌-◌}
 use mathlib.Core.Path.{◌∙◌, sym}
 use native.Mathlib.Omega.{arith}
 use Rattle.lists.proofs.Rules.{tests}

@@ -1,6 +1,5 @@
 -- `handler::handle` meets its contract: by the kind, which names the handler.
 -- Assumes nothing.
-use Rattle.lists.proofs.Rules.{flags}
 use Rattle.handler.specs.HandlerParts.{handle_change}
 use native.Mathlib.Omega.{arith}
 use borrow.Author.Tests.{ne_eqb}
