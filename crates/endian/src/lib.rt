@@ -1,5 +1,6 @@
 // Little-endian numbers in a byte slice, each width from two halves of the next lower one.
 #![tactic(auto)]
+
 ghost use Rattle.std.specs.Prelude.{◌≡◌, ◌+◌, ◌≤◌, ◌<◌, length};
 ghost use Rattle.endian.specs.Endian.{le16, le32, le64};
 

@@ -1,5 +1,6 @@
 // ISO 6166 identifiers: their form and their check digit. No country list is consulted.
 #![tactic(auto)]
+
 ghost use Rattle.std.specs.Prelude.{◌≡◌, true, ℕ, ◌+◌, ◌≤◌, ◌<◌, length, get_or};
 ghost use Rattle.isin.specs.Isin.{value_of, weight, sum_of, all_in, has_form, verdict_of};
 ghost use Rattle.isin.specs.Values.{is_letter, is_digit, is_allowed, by_arithmetic};

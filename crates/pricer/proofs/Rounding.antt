@@ -3,12 +3,12 @@
 -- Assumes nothing.
 use mathlib.Core.Path.{◌≡◌, refl, sym, ap, ◌∙◌, subst}
 use mathlib.Core.Bool.{Bool, true, false, not, ◌&&◌, ◌||◌, cond}
-use Prim.Native.Nat.{ℕ, zero, suc, ◌+◌, ◌-◌, ◌*◌, ◌≤◌, ◌<◌}
+use Prim.Native.Nat.{ℕ, zero, suc, ◌+◌, ◌-◌, ◌*◌, ◌^◌, ◌≤◌, ◌<◌}
 use native.Mathlib.Nat.{le_of_lt, le_of_eq, not-le_of_lt}
 use native.Mathlib.Omega.{arith}
 use lib.IntN.{ℤ}
 use lib.Dec.{T, ltb, eqb, eqb→eq, ltb→lt, not_T}
-use lib.Ieee.{Float, nan, inf, fin, binary64, up, down, low, prec, odd, units, round, sum, neg, le}
+use lib.Ieee.{Float, nan, inf, fin, binary64, up, down, low, emax, prec, odd, units, round, sum, neg, le}
 use lib.Ieee.Fits.{down_pos, round_is, and_l, and_r}
 use lib.Ieee.Order.{round_mono}
 use lib.Ieee.Positive.{through}
@@ -37,10 +37,10 @@ odd_sign_clear d (suc q) k l = tt
 
 units_sign_clear : (q k : ℕ) → T (sign_clear (units binary64 false q k))
 unfolding units
-units_sign_clear q k = go (ltb (q * _) _)
+units_sign_clear q k = go (ltb (q * 2 ^ k) (2 ^ (low binary64 + suc (emax binary64))))
   where
     go : (b : Bool) → T (sign_clear (cond b (odd (suc (prec binary64)) false q k (low binary64)) (inf false)))
-    go true = odd_sign_clear _ q k _
+    go true = odd_sign_clear (suc (prec binary64)) q k (low binary64)
     go false = tt
 
 round_sign_clear : (a c : ℕ) → T (sign_clear (round binary64 false a c))

@@ -2,6 +2,7 @@
 // operation rounded once, in its order.
 // No function asks anything of its caller: a price is defined for every bond, also for one whose terms are out of range.
 #![tactic(auto)]
+
 ghost use Rattle.std.specs.Prelude.{◌≡◌};
 ghost use Rattle.std.specs.Float.{binary64};
 ghost use Rattle.std.specs.Float.Ieee.{to_bits};

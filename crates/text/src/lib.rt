@@ -1,6 +1,7 @@
 // Writing text into a lent buffer: bytes, and numbers in decimal or hexadecimal digits. Each function writes from a position on and answers the
 // position after what it wrote. The caller makes sure that there is room.
 #![tactic(auto)]
+
 ghost use Rattle.std.specs.Prelude.{◌≡◌, ◌+◌, ◌≤◌, ◌<◌, length};
 ghost use Rattle.text.specs.Text.{Written, digit, low_digits, width_of, decimal, hex16};
 

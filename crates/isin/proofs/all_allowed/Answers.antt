@@ -1,7 +1,6 @@
 -- `isin::all_allowed` meets its contract. The invariant: what holds of all is what is known of those before i, and holds of those from i on.
 -- Assumes nothing.
 use native.Mathlib.Omega.{arith}
-use Prim.Native.Nat.{◌-◌}
 use mathlib.Core.Path.{refl, sym, ◌∙◌}
 use Rattle.isin.proofs.Form.{next, ends}
 use Rattle.isin.proofs.all_allowed.Goals as goal

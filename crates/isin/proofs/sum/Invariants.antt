@@ -1,7 +1,7 @@
 -- `isin::sum` meets its contract. The invariant: t and twice say what the digits of the characters from i on do,
 -- and t is at most 18 for each of these.
 -- Assumes nothing.
-use Prim.Native.Nat.{◌+◌, ◌-◌, ◌*◌, ◌≤◌}
+use Prim.Native.Nat.{◌+◌, ◌*◌, ◌≤◌}
 use lib.ListN.{length, drop}
 use Rattle.isin.specs.Isin.{expanded}
 use Rattle.isin.proofs.Digits.{Says}

@@ -14,7 +14,7 @@ overflow_sub-result-2 c = by_allowed c.args.b c.requires (λ l h v. omega arith)
 
 pub returns : goal.returns
 returns c = record {
-      value = values.same _ c.requires;
-      value_2 = refl;
-      upper_bound = values.most _ c.requires;
-    }
+  value = values.same _ c.requires;
+  value_2 = refl;
+  upper_bound = values.most _ c.requires;
+}

@@ -4,8 +4,8 @@ use Rattle.pricer.proofs.price.Goals as goal
 
 pub returns-in-Zero : goal.returns-in-Zero
 unfolding price_of
-returns-in-Zero c = rw (c.price_zero.ensures, c.t-1.given.1)
+returns-in-Zero c = rw (c.price_zero.ensures, c.in-Zero.is)
 
 pub returns-in-Fixed : goal.returns-in-Fixed
 unfolding price_of
-returns-in-Fixed c = rw (c.price_fixed.ensures, c.t-in-Fixed-1.given.1)
+returns-in-Fixed c = rw (c.price_fixed.ensures, c.in-Fixed.is)

@@ -1,6 +1,5 @@
 -- `pricer::price_zero` meets its contract. The invariant: after i periods p is the definition's value at i. The measure: the periods left.
 -- Assumes nothing.
-use Prim.Native.Nat.{◌-◌}
 use native.Mathlib.Nat.{le_antisymm}
 use native.Mathlib.Omega.{arith}
 use mathlib.Core.Path.{refl, ap, ◌∙◌}

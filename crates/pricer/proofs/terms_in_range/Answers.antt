@@ -2,7 +2,7 @@
 use Rattle.pricer.proofs.terms_in_range.Goals as goal
 
 pub returns-in-Zero : goal.returns-in-Zero
-returns-in-Zero c = rw (c.yield_in_range.ensures, c.t-1.given.1)
+returns-in-Zero c = rw (c.yield_in_range.ensures, c.in-Zero.is)
 
 pub returns-in-Fixed : goal.returns-in-Fixed
-returns-in-Fixed c = rw (c.yield_in_range-in-Fixed.ensures, c.coupon_in_range.ensures, c.t-in-Fixed-1.given.1)
+returns-in-Fixed c = rw (c.yield_in_range-in-Fixed.ensures, c.coupon_in_range.ensures, c.in-Fixed.is)

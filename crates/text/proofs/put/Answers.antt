@@ -1,6 +1,5 @@
 -- `text::put` meets its contract. The invariant of its loop: the first j bytes of s stand in the buffer from `at` on. Assumes nothing.
 use mathlib.Core.Path.{refl, ap, ◌∙◌}
-use Prim.Native.Nat.{◌-◌}
 use native.Mathlib.Nat.{le_antisymm}
 use native.Mathlib.Omega.{arith}
 use lib.ListN.{length-set}

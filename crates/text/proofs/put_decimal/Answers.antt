@@ -6,9 +6,9 @@ use Rattle.text.proofs.put_decimal.Goals as goal
 
 pub put_digits-requires : goal.put_digits-requires
 put_digits-requires c = record {
-      width_in_bounds = omega (arith, length_decimal c.args.n);
-      base_nonzero = (omega arith, omega arith);
-    }
+  width_in_bounds = omega (arith, length_decimal c.args.n);
+  base_nonzero = (omega arith, omega arith);
+}
 
 pub returns : goal.returns
 unfolding decimal
