@@ -1,5 +1,6 @@
 // A term of the book, 19 bytes, read into a bond.
 #![tactic(auto)]
+
 ghost use Rattle.std.specs.Prelude.{◌≡◌};
 ghost use Rattle.std.specs.Float.{binary64};
 ghost use Rattle.std.specs.Float.Ieee.{nan_bits};
@@ -8,7 +9,7 @@ ghost use Rattle.book_term.specs.Term.{checked, payments_of, term_from, term_of}
 use pricer::{Bond, Terms};
 
 // What reading a term finds: its bond, or a term outside the rules.
-#[derive(Drop)]
+#[derive(Clone, Copy)]
 pub enum Reading {
     Faulty,
     Valid(Bond),

@@ -35,7 +35,7 @@ pub const JOIN: u8 = 8;
 const LAST_CODE: u8 = JOIN;
 
 // What an event asks for: 10 or 11 and zeros; or 0, its code and its two numbers.
-#[derive(Drop)]
+#[derive(Clone, Copy)]
 pub struct Ask {
     pub number: u8,
     pub code: u8,
@@ -44,7 +44,7 @@ pub struct Ask {
 }
 
 // Where an event looks: a machine, a job, a told flag and a second machine.
-#[derive(Drop)]
+#[derive(Clone, Copy)]
 pub struct Place {
     pub machine: usize,
     pub job: usize,

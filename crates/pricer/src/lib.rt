@@ -11,14 +11,14 @@ ghost use Rattle.pricer.specs.Bonds.{with_terms};
 ghost use Rattle.pricer.specs.Range.{coupon_in_range, yield_in_range, payments_in_range, terms_in_range, in_range};
 
 // The terms of a bond: a zero-coupon bond has its annual yield, a fixed coupon bond its annual coupon per 100 of face and its annual yield.
-#[derive(Drop)]
+#[derive(Clone, Copy)]
 pub enum Terms {
     Zero(f64),
     Fixed(f64, f64),
 }
 
 // An entry of the book once it is read: the payments left, which are its periods; how many there are in a year; and its terms.
-#[derive(Drop)]
+#[derive(Clone, Copy)]
 pub struct Bond {
     pub periods: u8,
     pub payments: u8,
@@ -33,7 +33,7 @@ pub const NO_BOND: Bond = Bond {
 };
 
 // What the pricer is handed for a fixed coupon bond. The yield (to maturity) is named ytm, since `yield` is a word of the language.
-#[derive(Drop)]
+#[derive(Clone, Copy)]
 pub struct FixedBond {
     pub periods: u8,
     pub coupon: f64,

@@ -9,7 +9,7 @@ ghost use Rattle.protocol_change.specs.Change.{silent};
 use table::{Job, Machine, Message};
 
 // A job, a machine, and the replica number of that job in the pool of that machine.
-#[derive(Drop)]
+#[derive(Clone, Copy)]
 pub struct Parts {
     pub job: Job,
     pub machine: Machine,
@@ -17,7 +17,7 @@ pub struct Parts {
 }
 
 // The same after an event, and the message that it sends; one of kind 0 is none.
-#[derive(Drop)]
+#[derive(Clone, Copy)]
 pub struct Change {
     pub job: Job,
     pub machine: Machine,

@@ -3,13 +3,14 @@
 // table, the table.
 // What each field holds is listed at the head of specs/Views.antt. What is unused is 0 throughout.
 #![tactic(auto)]
+
 ghost use Rattle.std.specs.Prelude.{◌≡◌, ◌≤◌, ◌<◌};
 ghost use Rattle.table.specs.States.{OPEN, opens, open_after};
 ghost use Rattle.table.specs.Views.{idle_machine, refuse};
 
 use pricer::Bond;
 
-#[derive(Drop)]
+#[derive(Clone, Copy)]
 pub struct Job {
     pub state: u8,
     pub replica: u8,
@@ -19,7 +20,7 @@ pub struct Job {
     pub price: u64,
 }
 
-#[derive(Drop)]
+#[derive(Clone, Copy)]
 pub struct Machine {
     pub alive: u8,
     pub reserved_job: u8,
@@ -30,7 +31,7 @@ pub struct Machine {
     pub waits: u8,
 }
 
-#[derive(Drop)]
+#[derive(Clone, Copy)]
 pub struct Message {
     pub kind: u8,
     pub from: u8,
