@@ -42,7 +42,7 @@ pub struct Message {
     pub price: u64,
 }
 
-#[derive(Drop)]
+#[derive(Clone, Copy)]
 pub struct Table {
     pub machine_count: u8,
     pub entry_count: u8,
@@ -57,7 +57,7 @@ pub struct Table {
 }
 
 // A number, 0 or that of the refusal, beside the table.
-#[derive(Drop)]
+#[derive(Clone, Copy)]
 pub struct Answer {
     pub number: u8,
     pub table: Table,

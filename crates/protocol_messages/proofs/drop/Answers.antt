@@ -14,8 +14,8 @@ use Rattle.protocol_messages.specs.NotDropped.{not_dropped}
 use Rattle.protocol_messages.proofs.drop.Goals as goal
 use Rattle.protocol_messages.proofs.drop.Goals.{Start}
 
-full : (c : Start) → length c.args.t1.messages ≡ 128
-full c = (long c.args.t1 _ c.well-formed.0).messages
+full : (c : Start) → length c.args.t.messages ≡ 128
+full c = (long c.args.t _ c.well_formed.0).messages
 
 pub loop-i-init : goal.loop-i-init
 loop-i-init c = (search tests, kept_none _ _ _ _)
@@ -39,10 +39,10 @@ unfolding keep_messages parts
 returns c =
     let a = c.args in
     let p = not_dropped a.any a.from a.to in
-    let e : c.loop-i.i ≡ a.t1.in_flight = omega arith in
+    let e : c.loop-i.i ≡ a.t.in_flight = omega arith in
     let k = c.loop-i.invariant.1 in
-    let x : c.loop-i.w ≡ length (filter p (take a.t1.in_flight a.t1.messages)) = rw e at k.count in
-    let y : c.loop-i.out ≡ pad_to 128 no_message (filter p (take a.t1.in_flight a.t1.messages)) = rw e at k.slots in
+    let x : c.loop-i.w ≡ length (filter p (take a.t.in_flight a.t.messages)) = rw e at k.count in
+    let y : c.loop-i.out ≡ pad_to 128 no_message (filter p (take a.t.in_flight a.t.messages)) = rw e at k.slots in
     rw (x, y)
 
 pub overflow_cast-n : goal.overflow_cast-n

@@ -2,12 +2,8 @@
 -- Assumes nothing.
 use Rattle.lists.proofs.Rules.{flags}
 use Rattle.table.specs.Parts.{copy_is, reserves}
-use Rattle.handler_victim.proofs.reserves.Statement.{statement}
-use Rattle.handler_victim.proofs.reserves.Tie as tie
+use Rattle.handler_victim.proofs.reserves.Goals as goal
 
-returns : tie.Need-returns
+pub returns : goal.returns
 unfolding reserves copy_is
 returns c = search flags
-
-pub reserves-spec : {M : Type 1} → statement M
-reserves-spec = tie.close (tie.spec returns)

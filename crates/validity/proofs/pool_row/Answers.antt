@@ -1,0 +1,37 @@
+-- `validity::pool_row` meets its contract. The loop keeps: the test of all the cells passed so far.
+-- Assumes nothing.
+use Rattle.lists.proofs.Rules.{tests}
+use Prim.Native.Nat.{◌-◌}
+use mathlib.Core.Path.{sym}
+use Rattle.lists.proofs.Scans.{all_none, all_next, all_kept}
+use Rattle.validity.proofs.pool_row.Goals as goal
+
+pub loop-i-init : goal.loop-i-init
+loop-i-init c = (search tests, sym (all_none _))
+
+pub loop-i-preserved : goal.loop-i-preserved
+loop-i-preserved c = (search tests, all_next _ _ _ _ c.loop-i.invariant.1 c.cell_ok-ok.ensures)
+
+pub returns : goal.returns
+returns c = all_kept _ 64 c.loop-i.i _ (search tests) (search tests) c.loop-i.invariant.1
+
+pub overflow_mul-base : goal.overflow_mul-base
+overflow_mul-base c = search tests
+
+pub overflow_add-x : goal.overflow_add-x
+overflow_add-x c = search tests
+
+pub bounds-pools-base : goal.bounds-pools-base
+bounds-pools-base c = search tests
+
+pub overflow_cast-i : goal.overflow_cast-i
+overflow_cast-i c = search tests
+
+pub cell_ok-ok-requires : goal.cell_ok-ok-requires
+cell_ok-ok-requires c = search tests
+
+pub overflow_add-i : goal.overflow_add-i
+overflow_add-i c = search tests
+
+pub loop-i-smaller : goal.loop-i-smaller
+loop-i-smaller c = search tests
