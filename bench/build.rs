@@ -8,7 +8,7 @@ fn with(feature: &str) -> bool {
 
 fn main() {
     let here = PathBuf::from(std::env::var("CARGO_MANIFEST_DIR").expect("cargo sets it"));
-    let mut files = vec!["../target/staticlib/librakhvide_c.a", "target/prices.o"];
+    let mut files = vec!["../crates/rakhvide_c/out/librakhvide_c.a", "target/prices.o"];
     let mut libraries = vec![];
     if with("CLANG") {
         files.push("target/prices_clang.o");

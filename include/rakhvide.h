@@ -1,4 +1,4 @@
-/* Rakhvide's functions for programs in C, and for any language that calls C: the static library that `rt staticlib rakhvide_c` writes.
+/* Rakhvide's functions for programs in C, and for any language that calls C: the static library that `rt lib` writes in crates/rakhvide_c.
  *
  * What each function answers is proved for every content of its buffers (crates/rakhvide_c); that this header declares them as they are is not. The bytes
  * of a book, of an event and of a snapshot are in docs/LAYOUT.md, what the numbers mean in docs/PROTOCOL.md. What is left to the caller, and cannot be

@@ -1516,7 +1516,8 @@ class Compare(Folder):
         (self.folder / "compare").mkdir()
         script = shutil.copy(ROOT / "compare" / "program", self.folder / "compare")
         done = subprocess.run([script], stdout=subprocess.PIPE, stderr=subprocess.PIPE, timeout=60, check=False)
-        self.assertEqual((done.returncode, done.stdout, done.stderr), (2, b"", b"compare/program: run rt check rakhvide first\n"))
+        said = b"compare/program: the program is not built; rt run in crates/rakhvide builds it\n"
+        self.assertEqual((done.returncode, done.stdout, done.stderr), (2, b"", said))
 
 
 class Damage(Folder):

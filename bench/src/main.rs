@@ -36,7 +36,7 @@ fn all() -> Result<(), String> {
     println!();
     events(None);
     println!("\n### The program\n");
-    program::table(Path::new("../target/bin/rakhvide")).map_err(|fault| format!("the program: {fault}"))
+    program::table(Path::new("../crates/rakhvide/out/rakhvide")).map_err(|fault| format!("the program: {fault}"))
 }
 
 fn main() -> ExitCode {

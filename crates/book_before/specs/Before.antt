@@ -32,7 +32,7 @@ abbrev pub terms_before : Float → Terms → Bool
 terms_before lo (Zero y) = yield_before lo y
 terms_before lo (Fixed c y) = coupon_in_range c && yield_before lo y
 
--- as `inRange`, which knew of no payments
+-- as `in_range`, which knew of no payments
 unfoldable pub in_range_before : Float → Bond → Bool
 in_range_before lo b = periods_in_range b.periods && terms_before lo b.terms
 

@@ -7,7 +7,7 @@
 --                                                         job numbers: copy_ok (E); replica numbers "at least 1": copy_ok (E)
 --   "state .. outside its range"                          jobs: empty_job, admitted_ok, place_ok (moving); machines: empty_machine, machine_ok (alive);
 --                                                         told flags: told_ok; message kinds: kind_ok (E)
---   "term outside its range"                              bond_ok (E), by the pricer's inRange
+--   "term outside its range"                              bond_ok (E), by the pricer's in_range
 --   "an unused part not 0"                                entries from n on: empty_bond, job_ok, cell_ok; a job not admitted: empty_job;
 --                                                         a job not priced: admitted_ok; a job on one machine: place_ok;
 --                                                         machines from the count on: machine_ok, told_ok, cell_ok;

@@ -3,12 +3,8 @@
 use mathlib.Core.Path.{refl}
 use Rattle.table.specs.Parts.{message}
 use Rattle.handler_root.specs.RootParts.{answer}
-use Rattle.handler_root.proofs.reply.Statement.{statement}
-use Rattle.handler_root.proofs.reply.Tie as tie
+use Rattle.handler_root.proofs.reply.Goals as goal
 
-returns : tie.Need-returns
+pub returns : goal.returns
 unfolding answer message
 returns c = refl
-
-pub reply-spec : {M : Type 1} → statement M
-reply-spec = tie.close (tie.spec returns)

@@ -4,16 +4,12 @@ use Rattle.lists.proofs.Rules.{flags}
 use Rattle.table.specs.Parts.{pieces}
 use Rattle.protocol_change.specs.Change.{silent}
 use Rattle.handler_root.specs.RootParts.{result_change}
-use Rattle.handler_root.proofs.on_result.Statement.{statement}
-use Rattle.handler_root.proofs.on_result.Tie as tie
+use Rattle.handler_root.proofs.on_result.Goals as goal
 
-returns : tie.Need-returns
+pub returns-then-job-eq-OPEN : goal.returns-then-job-eq-OPEN
 unfolding result_change pieces
-returns c = search flags
+returns-then-job-eq-OPEN c = search flags
 
-returns-2 : tie.Need-returns-2
+pub returns-else-job-eq-OPEN : goal.returns-else-job-eq-OPEN
 unfolding result_change silent
-returns-2 c = search flags
-
-pub on-result-spec : {M : Type 1} → statement M
-on-result-spec = tie.close (tie.spec returns returns-2)
+returns-else-job-eq-OPEN c = search flags

@@ -3,12 +3,8 @@
 use mathlib.Core.Path.{refl}
 use Rattle.table.specs.Parts.{pieces, result}
 use Rattle.event_start_done.specs.StartDoneParts.{done_change}
-use Rattle.event_start_done.proofs.finished.Statement.{statement}
-use Rattle.event_start_done.proofs.finished.Tie as tie
+use Rattle.event_start_done.proofs.finished.Goals as goal
 
-returns : tie.Need-returns
+pub returns : goal.returns
 unfolding done_change result pieces
 returns c = refl
-
-pub finished-spec : {M : Type 1} → statement M
-finished-spec = tie.close (tie.spec returns)

@@ -3,12 +3,8 @@
 use mathlib.Core.Path.{refl}
 use Rattle.table.specs.Parts.{pieces}
 use Rattle.event_start_done.specs.StartDoneParts.{start_change}
-use Rattle.event_start_done.proofs.started.Statement.{statement}
-use Rattle.event_start_done.proofs.started.Tie as tie
+use Rattle.event_start_done.proofs.started.Goals as goal
 
-returns : tie.Need-returns
+pub returns : goal.returns
 unfolding start_change pieces
 returns c = refl
-
-pub started-spec : {M : Type 1} → statement M
-started-spec = tie.close (tie.spec returns)

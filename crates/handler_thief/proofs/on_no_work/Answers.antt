@@ -3,12 +3,8 @@
 use mathlib.Core.Path.{refl}
 use Rattle.table.specs.Parts.{pieces}
 use Rattle.handler_thief.specs.ThiefParts.{no_work_change}
-use Rattle.handler_thief.proofs.on_no_work.Statement.{statement}
-use Rattle.handler_thief.proofs.on_no_work.Tie as tie
+use Rattle.handler_thief.proofs.on_no_work.Goals as goal
 
-returns : tie.Need-returns
+pub returns : goal.returns
 unfolding no_work_change pieces
 returns c = refl
-
-pub on-no-work-spec : {M : Type 1} → statement M
-on-no-work-spec = tie.close (tie.spec returns)
