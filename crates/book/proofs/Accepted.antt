@@ -2,7 +2,7 @@
 -- and terms in range. Assumes nothing.
 use mathlib.Core.Path.{◌≡◌, refl, sym, ap, ◌∙◌}
 use mathlib.Core.Bool.{Bool, true, false, not, cond, ◌&&◌, true≢false}
-use mathlib.Core.Logic.{◌≢◌, ◌⊎◌, ⊎_elim}
+use mathlib.Core.Logic.{◌≢◌, ⊎_elim}
 use mathlib.Core.List.{List, []}
 use Prim.Native.Nat.{ℕ, suc, ◌+◌, ◌*◌, ◌≤◌, ◌<◌}
 use native.Mathlib.Omega.{arith}
@@ -80,7 +80,7 @@ past_identifier v t x e =
 
 pub record Accepted (s : List ℕ) : Type 0 where
   pub four : 4 ≤ length s
-  pub sizes_in_range_lem : Sizes (raw_machine_count s) (raw_entry_count s)
+  pub sizes_in_range : Sizes (raw_machine_count s) (raw_entry_count s)
   pub whole : length s ≡ 4 + 31 * raw_entry_count s
   pub faultless : (i : ℕ) → i < raw_entry_count s → fault_at s (raw_entry_count s) i ≡ 0
 
@@ -90,7 +90,7 @@ accepted s e =
     let p = past_sizes (ltb (length s) 4) (sizes_in_range (raw_machine_count s) (raw_entry_count s)) (eqb (length s) (4 + 31 * raw_entry_count s)) _ e in
     record {
       four = ltb-false _ _ p.0;
-      sizes_in_range_lem = sizes _ _ p.1;
+      sizes_in_range = sizes _ _ p.1;
       whole = eqb-true _ _ p.2;
       faultless = lowest_none (fault_at s (raw_entry_count s)) (raw_entry_count s) (sym (lowest_is s (raw_entry_count s)) ∙ p.3);
     }
@@ -114,7 +114,7 @@ pub record Entry (s : List ℕ) (n i : ℕ) : Type 0 where
   pub passes : verdict_of (identifier_at s i) ≡ 0
   pub new : (k : ℕ) → k < i → identifier_at s k ≢ identifier_at s i
   pub read : term_of (term_at s n i) ≡ Valid (term_bond_at s n i)
-  pub in_range_lem : in_range (term_bond_at s n i) ≡ true
+  pub in_range : in_range (term_bond_at s n i) ≡ true
 
 -- what reads to no fault is the bond of the entry
 pub valid : (r : Reading) → term_number r ≡ 0 → r ≡ Valid (bond_in r)
@@ -134,7 +134,7 @@ entry_of s n i e =
           let w : differs k ≡ false = rw q (ap not (same_itself (identifier_at s i))) in
           true≢false (sym d ∙ w);
       read = r;
-      in_range_lem = read_in_range (term_at s n i) _ r;
+      in_range = read_in_range (term_at s n i) _ r;
     }
 
 pub entry : (s : List ℕ) → Accepted s → (i : ℕ) → i < raw_entry_count s → Entry s (raw_entry_count s) i

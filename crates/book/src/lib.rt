@@ -1,5 +1,6 @@
 // The book: its sizes, its lowest faulty entry, and the parts of an entry.
 #![tactic(auto)]
+
 ghost use Rattle.std.specs.Prelude.{◌≡◌, [], ◌+◌, ◌*◌, ◌≤◌, ◌<◌, length};
 ghost use Rattle.book.specs.Book.{identifier_at, same_bytes, fault_at, lowest_fault, sizes_in_range, book_verdict};
 ghost use Rattle.book.specs.Entry.{holds, entry_fault};

@@ -9,7 +9,6 @@ use lib.Dec.{leb, ltb}
 use lib.ListN.{length, take, drop, length-append}
 use lib.Seq.{take_at, drop-append-add, length-take-le}
 use Rattle.lists.proofs.Cases.{by_eq}
-use Rattle.text.specs.Text.{onto}
 use Rattle.isin.specs.Isin.{verdict_of}
 use Rattle.isin.proofs.Form.{not_twelve}
 use Rattle.book_term.specs.Term.{term_of, term_number}
@@ -18,7 +17,7 @@ use Rattle.book.specs.Book.{book_verdict}
 use Rattle.book.specs.Parts.{entry_count_of}
 use Rattle.book.specs.Entry.{holds, entry_fault}
 use Rattle.book.proofs.Accepted.{past, past_own, past_identifier}
-use Rattle.book_writer.specs.Writer.{grown, book_number, add_number, add_bytes}
+use Rattle.book_writer.specs.Writer.{grown, onto, book_number, add_number, add_bytes}
 use Rattle.book_writer.proofs.Grown.{grown_length}
 
 -- ---- the lengths of an entry without fault

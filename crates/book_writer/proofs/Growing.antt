@@ -6,10 +6,10 @@ use native.Mathlib.Omega.{arith}
 use lib.ListN.{length, take, drop, set, get_or, length-append}
 use lib.Seq.{take-take, take-add, drop-drop, length-take-le, get_or-take}
 use Rattle.lists.proofs.Slices.{part, drop_take}
-use Rattle.text.specs.Text.{over, onto}
+use Rattle.text.specs.Text.{over}
 use Rattle.book.specs.Book.{book_verdict}
 use Rattle.book.specs.Parts.{machine_count_of, entry_count_of}
-use Rattle.book_writer.specs.Writer.{head, laid, identifiers, terms, grown, add_number, add_bytes}
+use Rattle.book_writer.specs.Writer.{head, laid, identifiers, terms, grown, onto, add_number, add_bytes}
 use Rattle.book.proofs.Accepted.{whole_length, count_byte}
 use Rattle.book_writer.proofs.Laid.{laid_head, own_laid, own_long}
 use Rattle.book_writer.proofs.Answers.{Adds, twelve, nineteen, number_adds, adds_size, added_accepted, added_refused}

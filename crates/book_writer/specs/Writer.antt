@@ -1,7 +1,6 @@
 -- Document 02, 2.2, "Adding an entry to a book": "it takes a buffer whose first bytes, of a stated count, are a book, and one identifier with its
 -- terms, and leaves in the buffer the book with that entry last." Definitions only.
 use Rattle.std.specs.Prelude.{ℕ, ◌+◌, ◌*◌, not, cond, List, [], ◌∷◌, ◌++◌, leb, ltb, eqb, length, take, drop}
-use Rattle.text.specs.Text.{onto}
 use Rattle.book.specs.Book.{book_verdict}
 use Rattle.book.specs.Parts.{machine_count_of, entry_count_of}
 use Rattle.book.specs.Entry.{entry_fault}
@@ -44,6 +43,10 @@ unfoldable pub add_number : List ℕ → ℕ → List ℕ → List ℕ → ℕ
 add_number buffer count id term = cond (ltb (length buffer) count) 3 (book_number (take count buffer) (length buffer) id term)
 
 -- ---- the buffer
+
+-- the book s at the front of the buffer
+abbrev pub onto : List ℕ → List ℕ → List ℕ
+onto s buffer = s ++ drop (length s) buffer
 
 -- "The bytes past the grown book are untouched."; document 01: "A refusal returns its number; table and buffers are unchanged"
 unfoldable pub add_bytes : List ℕ → ℕ → List ℕ → List ℕ → List ℕ

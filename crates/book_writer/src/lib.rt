@@ -1,5 +1,6 @@
 // The writer: an entry is added to the book at the front of a lent buffer.
 #![tactic(auto)]
+
 ghost use Rattle.std.specs.Prelude.{◌≡◌, ◌++◌, ◌+◌, ◌-◌, ◌*◌, ◌≤◌, ◌<◌, length, take, drop, set};
 ghost use Rattle.text.specs.Text.{over};
 ghost use Rattle.book_writer.specs.Writer.{book_number, add_number, add_bytes};

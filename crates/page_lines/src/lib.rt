@@ -1,6 +1,7 @@
 // The lines of the page, each written into a lent buffer from a position on.
 // The caller makes sure that there is room for the longest line of the kind.
 #![tactic(auto)]
+
 ghost use Rattle.std.specs.Prelude.{◌+◌, ◌≤◌, ◌<◌, length};
 ghost use Rattle.text.specs.Text.{Written};
 ghost use Rattle.page_lines.specs.Lines.{line_end, book_refused_line, event_refused_line, not_admitted_line, open_line, priced_line, open_jobs_line};

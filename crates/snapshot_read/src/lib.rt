@@ -1,5 +1,6 @@
 // Reading a snapshot: whether bytes are those of a table, and the table that they stand for. The layout is in specs/Layout.antt.
 #![tactic(auto)]
+
 ghost use Rattle.std.specs.Prelude.{◌≡◌, ◌+◌, ◌≤◌, length};
 ghost use Rattle.std.specs.Float.{binary64};
 ghost use Rattle.std.specs.Float.Ieee.{of_bits};

@@ -1,5 +1,6 @@
 // Writing a snapshot: its bytes into a lent buffer. Each function writes from a position on and answers the position after what it wrote.
 #![tactic(auto)]
+
 ghost use Rattle.std.specs.Prelude.{◌≡◌, ◌+◌, ◌*◌, ◌≤◌, ◌++◌, length, get_or, set};
 ghost use Rattle.text.specs.Text.{over, joined, Written};
 ghost use Rattle.table.specs.Views.{no_message};

@@ -1,5 +1,6 @@
 // Opening a book: its number, beside the fresh table where it is accepted.
 #![tactic(auto)]
+
 ghost use Rattle.std.specs.Prelude.{◌≡◌, ◌≤◌, replicate};
 ghost use Rattle.lists.specs.Scan.{up_to};
 ghost use Rattle.pricer.specs.Bonds.{no_bond};

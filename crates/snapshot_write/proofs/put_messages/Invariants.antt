@@ -1,0 +1,15 @@
+-- `snapshot_write::put_messages` meets its contract. The invariant of its loop: the first i elements are written. Assumes nothing.
+use Prim.Native.Nat.{◌-◌, ◌≤◌}
+use mathlib.Core.Path.{◌≡◌}
+use lib.ListN.{length, get_or}
+use Rattle.text.specs.Text.{joined, Written}
+use Rattle.table.specs.Views.{no_message}
+use Rattle.snapshot_write.specs.Bytes.{message_bytes}
+use Rattle.snapshot_write.proofs.put_messages.Given as goal
+
+abbrev pub invariant-loop-i : goal.invariant-loop-i
+invariant-loop-i l =
+    (l.i ≤ l.n) × (length l.out ≡ length l.initial.out) × Written l.initial.out l.at (joined (λ k. message_bytes (get_or l.messages k no_message)) l.i) l.out l.end
+
+abbrev pub decreases-loop-i : goal.decreases-loop-i
+decreases-loop-i l = l.n - l.i
