@@ -135,7 +135,7 @@ deaths_run = count_along deaths kills (λ t e w. deaths_step t w e)
 
 -- ---- the largest replica number
 
-max_replica_deaths : (t : Table) → Invariant t → max_replica t ≤ 1 + deaths t
+pub max_replica_deaths : (t : Table) → Invariant t → max_replica t ≤ 1 + deaths t
 unfolding max_replica
 max_replica_deaths t w =
     omega (

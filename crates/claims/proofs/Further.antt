@@ -8,25 +8,31 @@ use mathlib.Core.List.{List, [], ◌∷◌}
 use native.Mathlib.Omega.{arith}
 use borrow.Author.Tests.{ltb-true, ltb-false}
 use lib.Dec.{ltb}
+use lib.ListN.{length, replicate}
 use Rattle.lists.proofs.Cases.{by_bool, by_eq, and_both}
-use Rattle.lists.proofs.Count.{Every}
 use Rattle.table.specs.declared.Job.{Job}
 use Rattle.table.specs.Parts.{NOT_ADMITTED, OPEN, PRICED}
 use Rattle.table.specs.declared.Table.{Table}
 use Rattle.table.specs.Views.{job_at}
 use Rattle.theorem_invariant.proofs.State.{Invariant}
-use Rattle.dispatcher.specs.Step.{run_of, is_further}
+use Rattle.dispatcher.specs.Step.{step_of, run_of, answers_of, is_further}
+use Rattle.theorem_drain.proofs.Reach.{Accepted}
 use Rattle.theorem_drain.proofs.Drain.{drain}
 use Rattle.claims.specs.History.{count_of, admits, results_of, state_after, all_further}
 use Rattle.claims.specs.Claims.{Further}
 use Rattle.claims.proofs.Change.{job_past}
 use Rattle.claims.proofs.History.{settled, open_run}
 
--- no event of the list is of another kind
-all_further_lem : (es : List (List ℕ)) → Every (λ e. is_further e ≡ true) es → all_further es ≡ true
+-- each event of the list is answered 0, and is none of the other kinds
+all_zero : (t : Table) (es : List (List ℕ)) → Accepted t es → answers_of t es ≡ replicate (length es) 0
+unfolding answers_of
+all_zero t [] a = refl
+all_zero t (e ∷ es) a = rw (a.1, all_zero (step_of t e).table es a.2) refl
+
+all_further_lem : (t : Table) (es : List (List ℕ)) → Accepted t es → all_further es ≡ true
 unfolding all_further
-all_further_lem [] a = refl
-all_further_lem (e ∷ es) a = and_both (is_further e) (all_further es) a.0 (all_further_lem es a.1)
+all_further_lem t [] a = refl
+all_further_lem t (e ∷ es) a = and_both (is_further e) (all_further es) a.0 (all_further_lem (step_of t e).table es a.2)
 
 -- ---- an admitted job stays admitted
 
@@ -60,10 +66,9 @@ further t w =
     record {
       events = r.events;
       few = omega (arith, r.few);
-      accepted = r.leads.accepted;
-      only = all_further_lem r.events r.only;
+      accepted = all_zero t r.events r.accepted;
+      only = all_further_lem t r.events r.accepted;
       priced = λ j n.
           let l = job_64 t j w n in
-          let end = r.leads.there in
-          omega (arith, stays_admitted t r.events j w n, end.none_open j l, (end.invariant.facts.job j l).state);
+          omega (arith, stays_admitted t r.events j w n, r.there.none_open j l, (r.there.invariant.facts.job j l).state);
     }
