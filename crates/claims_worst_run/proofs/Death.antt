@@ -47,8 +47,8 @@ told_taken : (t : Table) (d : ℕ) → told_at (remove_at t 0) 0 d ≡ told_at t
 unfolding remove_at
 told_taken t d = simp views
 
-alive_of : {t : Table} {m : ℕ} {c : Machine} → machine_at t m ≡ c → (machine_at t m).alive ≡ c.alive
-alive_of e = ap (λ (m : Machine). m.alive) e
+alive_of : (t : Table) (m : ℕ) {c : Machine} → machine_at t m ≡ c → (machine_at t m).alive ≡ c.alive
+alive_of t m e = ap (λ (n : Machine). n.alive) e
 
 module _ {n i : ℕ} (low : 0 < i) (high : i < 16) (r : ℕ) (some : r ≢ 0) where
   -- the accepted event, the invariant after it, and what is seen after it
@@ -95,8 +95,8 @@ module _ {n i : ℕ} (low : 0 < i) (high : i < 16) (r : ℕ) (some : r ≢ 0) wh
       let s = p.seen in
       let w = p.invariant in
       one (stolen t i 0) (event STEAL i 0) p
-      (accepts_steal t w i 0 high (omega (arith, w.facts.machine_count_some)) (alive_of s.thief) (λ e. omega arith)
-      (ap (λ (m : Machine). m.waits) s.thief) (untold_alive t w i 0 high (omega arith) (alive_of s.root)) (omega (arith, seen_used low high s)))
+      (accepts_steal t w i 0 high (omega (arith, w.facts.machine_count_some)) (alive_of t i s.thief) (λ e. omega arith)
+      (ap (λ (m : Machine). m.waits) s.thief) (untold_alive t w i 0 high (omega arith) (alive_of t 0 s.root)) (omega (arith, seen_used low high s)))
       (seen_stolen low high r s)
 
   -- "its FISH, REQ, AUTH and SCHEDULE are delivered"
@@ -113,7 +113,7 @@ module _ {n i : ℕ} (low : 0 < i) (high : i < 16) (r : ℕ) (some : r ≢ 0) wh
   asks {t = t} e p =
       one (handle (remove_at t 0) (req i r)) (event DELIVER 0 0) p (taken p)
       (seen_req low high r (seen_taken low high p.seen)
-      (told_taken t i ∙ untold_alive t p.invariant 0 i (omega arith) high (alive_of p.seen.thief ∙ e)) refl)
+      (told_taken t i ∙ untold_alive t p.invariant 0 i (omega arith) high (alive_of t i p.seen.thief ∙ e)) refl)
 
   authorises : {v : Job} {b : Machine} {t : Table} → b.alive ≡ 1 → At n i v (reserve (idle_machine 1) 0 r i) b (auth i r ∷ []) t
       → Leads (At n i v (idle_machine 1) b (schedule i r ∷ [])) t (event DELIVER 0 0 ∷ [])
@@ -132,7 +132,7 @@ module _ {n i : ℕ} (low : 0 < i) (high : i < 16) (r : ℕ) (some : r ≢ 0) wh
       → Leads (At n i v (idle_machine 1) no_machine (ack i r ∷ [])) t (event DIE i 0 ∷ [])
   dies {t = t} p =
       let s = p.seen in
-      one (died t i) (event DIE i 0) p (accepts_die t p.invariant i high (λ e. omega arith) (alive_of s.thief)) (seen_died low high r s)
+      one (died t i) (event DIE i 0) p (accepts_die t p.invariant i high (λ e. omega arith) (alive_of t i s.thief)) (seen_died low high r s)
 
   -- "the root is told"
   hears : {t : Table} → At n i (moved (opened r) 0 i) (idle_machine 1) no_machine (ack i r ∷ []) t

@@ -5,7 +5,7 @@ use Prim.Native.Nat.{ℕ, zero, suc, ◌+◌, ◌≤◌, ◌<◌}
 use mathlib.Core.Path.{◌≡◌, ap, ◌∙◌}
 use mathlib.Core.List.{List, [], ◌∷◌}
 use native.Mathlib.Omega.{arith}
-use lib.ListN.{replicate}
+use lib.ListN.{replicate, get_or}
 use Rattle.lists.proofs.Count.{every_at}
 use Rattle.book.specs.Book.{book_verdict}
 use Rattle.book.specs.Parts.{machine_count_of, entry_count_of}
@@ -146,6 +146,7 @@ worst_run_lem book ok = record {
         running = λ m l. omega (arith, (w.facts.machine m l).running_replica, top);
         message = λ i l.
             let x : MessageFacts u _ = every_at (MessageFacts u) (flight u) i no_message (omega (arith, length_flight u w.sized)) w.facts.message in
-            rw (message_flight u w.sized i l) at (omega (arith, x.replica, top));
+            let y : (get_or (flight u) i no_message).replica ≤ k + 1 = omega (arith, x.replica, top) in
+            rw (message_flight u w.sized i l) at y;
       };
 }

@@ -16,7 +16,7 @@ pub const BYTES_MOST: usize = 60000;
 pub const LONGEST: usize = 20000 * 23 + 64 * 48 + 8;
 
 // Whether the buffer was long enough, and the length of the page, 0 where it was not.
-#[derive(Drop)]
+#[derive(Clone, Copy)]
 pub struct Printed {
     pub written: bool,
     pub length: usize,

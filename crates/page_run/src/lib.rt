@@ -1,5 +1,6 @@
 // A run as it is printed: the events of a list, one after another, on a table that passes check 9, and the lines of those that are refused.
 #![tactic(auto)]
+
 ghost use Rattle.std.specs.Prelude.{◌≡◌, true, ℕ, ◌*◌, ◌≤◌, ◌<◌, length, get_or};
 ghost use Rattle.text.specs.Text.{Written};
 ghost use Rattle.validity.specs.Validity.{table_ok};
@@ -10,7 +11,7 @@ ghost use Rattle.page_run.specs.Run.{refusals_most, refusals, Listed};
 use table::Table;
 
 // The table after the events, and the position after the lines written.
-#[derive(Drop)]
+#[derive(Clone, Copy)]
 pub struct Ran {
     pub table: Table,
     pub length: usize,

@@ -1,6 +1,7 @@
 // A snapshot, a table that is kept as bytes between calls: opened from a book, checked, and stepped by one event, each with document 01's number; and
 // asked how many jobs are open.
 #![tactic(auto)]
+
 ghost use Rattle.std.specs.Prelude.{◌≡◌, ◌≤◌};
 ghost use Rattle.snapshot.specs.Snapshot.{check_of, step_number, step_bytes, open_number, open_bytes, open_jobs_of};
 

@@ -17,7 +17,7 @@ use Rattle.dispatcher.proofs.Runs.{run_append}
 -- each event is a further one and is answered 0
 abbrev pub Accepted : Table → List (List ℕ) → Type 0
 Accepted t [] = Unit {0}
-Accepted t (e ∷ es) = (is_further e ≡ true) × ((step_of t e).number ≡ 0) × Accepted ((step_of t e).table) es
+Accepted t (e ∷ es) = (is_further e ≡ true) × ((step_of t e).number ≡ 0) × Accepted (step_of t e).table es
 
 pub record Reach (P : Table → Type 0) (t : Table) (n : ℕ) : Type 0 where
   pub events : List (List ℕ)
@@ -30,7 +30,7 @@ pub record Reach (P : Table → Type 0) (t : Table) (n : ℕ) : Type 0 where
 pub accepted_append : (t : Table) (es fs : List (List ℕ)) → Accepted t es → Accepted (run_of t es) fs → Accepted t (es ++ fs)
 unfolding run_of
 accepted_append t [] fs a b = b
-accepted_append t (e ∷ es) fs a b = (a.0, a.1, accepted_append ((step_of t e).table) es fs a.2 b)
+accepted_append t (e ∷ es) fs a b = (a.0, a.1, accepted_append (step_of t e).table es fs a.2 b)
 
 -- ---- the parts
 
