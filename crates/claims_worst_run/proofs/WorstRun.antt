@@ -10,7 +10,6 @@ use Rattle.lists.proofs.Count.{every_at}
 use Rattle.book.specs.Book.{book_verdict}
 use Rattle.book.specs.Parts.{machine_count_of, entry_count_of}
 use Rattle.table.specs.declared.Job.{Job}
-use Rattle.table.specs.declared.Message.{Message}
 use Rattle.table.specs.declared.Table.{Table}
 use Rattle.table.specs.Views.{idle_machine, no_machine, no_message, job_at, machine_at, flight}
 use Rattle.table.specs.Pools.{enter}
@@ -29,14 +28,13 @@ use Rattle.theorem_invariant.proofs.State.{Invariant}
 use Rattle.theorem_invariant.proofs.Keeps.{invariant_run}
 use Rattle.theorem_drain.proofs.AcceptedInvariant.{accepted_invariant}
 use Rattle.theorem_drain.proofs.Steps.{accepts_admit}
-use Rattle.claims.specs.History.{count_of, kills}
 use Rattle.claims.proofs.Start.{start}
 use Rattle.claims.proofs.Deaths.{max_replica_run}
 use Rattle.worst_run.specs.Worst.{death_of, deaths_to, worst_run}
 use Rattle.worst_run.proofs.Bytes.{length_run}
 use Rattle.worst_run.proofs.Numbers.{fits}
 use Rattle.worst_run.proofs.ReadBack.{read_back}
-use Rattle.claims_worst_run.specs.WorstRun.{Reaches, NoneAbove, WorstRun}
+use Rattle.claims_worst_run.specs.WorstRun.{Reaches, WorstRun}
 use Rattle.claims_worst_run.proofs.Death.{At, death}
 use Rattle.claims_worst_run.proofs.Deaths.{deaths_run}
 

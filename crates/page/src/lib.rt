@@ -1,5 +1,6 @@
 // The page as a function on slices: a book and a list of events in, text out.
 #![tactic(auto)]
+
 ghost use Rattle.std.specs.Prelude.{◌≡◌, true, ◌+◌, ◌≤◌, length, take};
 ghost use Rattle.text.specs.Text.{Written};
 ghost use Rattle.book.specs.Book.{book_verdict};

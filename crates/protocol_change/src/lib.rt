@@ -3,6 +3,7 @@
 // functions of parts: the parts in, a change out. Where the parts stand in the table, and making the change on it, are the matter of one loop
 // (crate `dispatcher`), which copies no table.
 #![tactic(auto)]
+
 ghost use Rattle.std.specs.Prelude.{◌≡◌};
 ghost use Rattle.protocol_change.specs.Change.{silent};
 

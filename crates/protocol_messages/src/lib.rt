@@ -2,6 +2,7 @@
 // `in_channel`, a message is taken off by moving those after it up as far as `kept`, and what is sent goes to the slot there, as `stored` and `counted`
 // say. A death and a notice drop messages: `drop_to` and `drop_from` equal `keep_messages` of the crate `table`.
 #![tactic(auto)]
+
 ghost use Rattle.std.specs.Prelude.{◌≡◌, ◌≤◌};
 ghost use Rattle.table.specs.Messages.{in_channel, keep_messages, not_to, not_from};
 ghost use Rattle.protocol_messages.specs.InPlace.{kept, stored, counted};

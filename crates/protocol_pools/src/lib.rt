@@ -2,6 +2,7 @@
 // Each public function equals the definition of its name in the crate `table`; `open_on_root` equals its `enter` after `with_job`, and `lowest`, which
 // is lent the pools, the definition in specs/Lowest.antt.
 #![tactic(auto)]
+
 ghost use Rattle.std.specs.Prelude.{◌≡◌, ◌<◌, max};
 ghost use Rattle.table.specs.Views.{job_at, machine_at, with_job};
 ghost use Rattle.table.specs.Pools.{enter, clear_pool, returned};

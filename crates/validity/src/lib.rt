@@ -1,6 +1,7 @@
 // Refusal 9: whether a table is in order, in two halves. The tests of one element: one function for each array, over the tests in the crates
 // `validity_element` and `validity_message`. And the counts over a whole array, each kept beside it.
 #![tactic(auto)]
+
 ghost use Rattle.std.specs.Prelude.{◌≡◌, ℕ, ◌+◌, ◌*◌, ◌<◌, get_or};
 ghost use Rattle.lists.specs.Scan.{all};
 ghost use Rattle.table.specs.Views.{machine_at};

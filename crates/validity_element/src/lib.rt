@@ -1,6 +1,7 @@
 // Refusal 9, one element of the table at a time: bonds, jobs, machines, told flags, pool cells. Each function is handed numbers and the one element,
 // never the table. Message slots are the crate `validity_message`.
 #![tactic(auto)]
+
 ghost use Rattle.std.specs.Prelude.{◌≡◌};
 ghost use Rattle.validity_element.specs.Element.{copy_ok, no_terms, empty_bond, bond_ok, empty_job, admitted_ok, place_ok, job_ok, empty_machine};
 ghost use Rattle.validity_element.specs.Element.{reserved_ok, running_ok, machine_ok, told_ok, cell_ok};

@@ -1,6 +1,7 @@
 // Refusal 9, one message slot: what is in use is a message in order to a living machine, what is not is all 0.
 // Each function is handed numbers and the one message, never the table.
 #![tactic(auto)]
+
 ghost use Rattle.std.specs.Prelude.{◌≡◌};
 ghost use Rattle.validity_message.specs.Message.{empty_message, with_copy, with_thief, to_root, kind_ok, ends_ok, carries_ok, thief_ok, message_ok};
 ghost use Rattle.validity_message.specs.Message.{slot_ok};

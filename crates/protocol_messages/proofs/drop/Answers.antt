@@ -1,6 +1,5 @@
 -- `protocol_messages::drop` meets its contract. The loop keeps: `out` holds, from its first slot, the messages passed so far that stay.
 -- Assumes nothing.
-use Prim.Native.Nat.{◌-◌}
 use lib.ListN.{length, take}
 use mathlib.Core.Path.{◌∙◌, ◌≡◌, sym}
 use native.Mathlib.Omega.{arith}

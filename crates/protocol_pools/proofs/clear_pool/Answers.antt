@@ -1,6 +1,5 @@
 -- `protocol_pools::clear_pool` meets its contract. The loop keeps: the pool is cleared up to job j.
 -- Assumes nothing.
-use Prim.Native.Nat.{◌-◌}
 use Rattle.lists.proofs.Rules.{tests}
 use Rattle.lists.proofs.Scans.{up_end, up_more, up_none}
 use Rattle.table.specs.Pools.{clear_pool}

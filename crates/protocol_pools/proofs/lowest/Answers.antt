@@ -1,6 +1,5 @@
 -- `protocol_pools::lowest` meets its contract. The loop keeps: no job passed so far is in the pool.
 -- Assumes nothing.
-use Prim.Native.Nat.{◌-◌}
 use borrow.Author.Tests.{eq-eqb, ne_eqb}
 use mathlib.Core.Bool.{not}
 use mathlib.Core.Path.{ap, sym}

@@ -1,12 +1,9 @@
 -- `validity::machines_ok` meets its contract. The loop keeps: every element passed so far passes its test.
 -- Assumes nothing.
 use Rattle.lists.proofs.Rules.{tests}
-use Prim.Native.Nat.{◌-◌}
 use mathlib.Core.Path.{sym, ◌∙◌}
-use mathlib.Core.Bool.{true}
 use Rattle.lists.proofs.Scans.{all_none, all_more, all_fail, all_end}
 use Rattle.table.specs.Views.{parts}
-use Rattle.validity_element.specs.Element.{machine_ok}
 use Rattle.validity.specs.Validity.{machines_ok}
 use Rattle.validity.proofs.machines_ok.Goals as goal
 

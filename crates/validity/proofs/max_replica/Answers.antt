@@ -2,7 +2,7 @@
 -- Assumes nothing.
 use Rattle.lists.proofs.Rules.{tests}
 use borrow.Author.Tests.{eq-eqb, ne_eqb}
-use Prim.Native.Nat.{ℕ, ◌-◌, ◌+◌}
+use Prim.Native.Nat.{ℕ, ◌+◌}
 use mathlib.Core.Path.{ap}
 use native.Mathlib.Nat.{zero-add}
 use Rattle.lists.proofs.Scans.{count_none, count_yes, count_no, count_end}

@@ -1,7 +1,6 @@
 -- `validity::recount` meets its contract. The loop counts the open jobs passed so far.
 -- Assumes nothing.
 use borrow.Author.Tests.{eq-eqb, ne_eqb}
-use Prim.Native.Nat.{◌-◌}
 use Rattle.lists.proofs.Rules.{tests}
 use Rattle.lists.proofs.Scans.{count_none, count_yes, count_no, count_end}
 use Rattle.table.specs.Views.{parts}

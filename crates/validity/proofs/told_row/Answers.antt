@@ -1,7 +1,6 @@
 -- `validity::told_row` meets its contract. The loop keeps: the test of all the flags passed so far.
 -- Assumes nothing.
 use Rattle.lists.proofs.Rules.{tests}
-use Prim.Native.Nat.{◌-◌}
 use mathlib.Core.Path.{sym}
 use Rattle.lists.proofs.Scans.{all_none, all_next, all_kept}
 use Rattle.validity.proofs.told_row.Goals as goal

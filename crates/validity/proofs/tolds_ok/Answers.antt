@@ -1,9 +1,8 @@
 -- `validity::tolds_ok` meets its contract. The loop keeps: every element passed so far passes its test.
 -- Assumes nothing.
 use Rattle.lists.proofs.Rules.{tests}
-use Prim.Native.Nat.{ℕ, ◌-◌}
+use Prim.Native.Nat.{ℕ}
 use mathlib.Core.Path.{◌≡◌, sym, ap, ◌∙◌}
-use mathlib.Core.Bool.{true}
 use mathlib.Core.List.{List}
 use Rattle.lists.specs.Scan.{all}
 use Rattle.lists.proofs.Scans.{all_none, all_more, all_fail, all_end}
