@@ -2,6 +2,7 @@
 // a change out. `run` is the one place where the parts are read and the change is made: on its own table, element by element, so that no table is
 // copied. Die and Notice may change many parts, and Join the machine count; they take a table and give one back.
 #![tactic(auto)]
+
 ghost use Rattle.std.specs.Prelude.{◌≡◌, true, ◌&&◌, ◌||◌, ◌++◌, ◌*◌, ◌≤◌, ◌<◌, eqb, leb, length, drop};
 ghost use Rattle.validity.specs.Validity.{table_ok};
 ghost use Rattle.table.specs.Needs.{Ready};

@@ -1,6 +1,7 @@
 // The C interface: what a program in C or Rust calls of Rakhvide, under the names that include/rakhvide.h declares.
 // Each function is one of the crates below under a plain name; no function asks anything of its numbers or bytes.
 #![tactic(auto)]
+
 ghost use Rattle.std.specs.Prelude.{◌≡◌, true, length, take};
 ghost use Rattle.std.specs.Float.{binary64};
 ghost use Rattle.std.specs.Float.Ieee.{to_bits};
@@ -68,6 +69,7 @@ fn number_of(r: Reading) -> u8
 }
 
 // The bits of the price of a term that was read; for one outside the rules, those that were there.
+#[tactic(auto, unfolding(crate::specs::Terms::term_bits))]
 fn bits_of(r: Reading, old: u64) -> u64
     ensures { result ≡ term_bits r old }
 {

@@ -7,19 +7,22 @@
 // A question has 25 bytes: an entry number in four; the number that goes with its identifier; the identifier; the bits of its price.
 // The last two are 0 where the number is not 0. All is little-endian.
 #![tactic(auto)]
+
 mod calls;
 
 ghost use Rattle.std.specs.Prelude.{◌≡◌, ◌≤◌, ◌<◌, length};
 
+use std::rt::Files;
+
 // What the records of a file are.
-#[derive(Drop)]
+#[derive(Clone, Copy)]
 enum Content {
     Books,
     Calls,
 }
 
 // What is counted: the records that expect a number, those of them that agree, all records, the questions, the records that differ.
-#[derive(Drop)]
+#[derive(Clone, Copy)]
 enum Which {
     Expecting(u8),
     Agreeing(u8),
@@ -144,11 +147,11 @@ fn questions(record: &[u8]) -> u64
 }
 
 // Whether the record differs from what it expects; if so, its number i is printed.
-fn differs(record: &[u8], content: Content, i: u64) -> bool {
+fn differs(rt: &impl Print, record: &[u8], content: Content, i: u64) -> bool {
     if agrees(record, content) {
         return false;
     }
-    test_report::difference(i);
+    test_report::difference(rt, i);
     true
 }
 
@@ -159,7 +162,7 @@ fn one_if(b: bool) -> u64
 }
 
 // What the record of number i adds to a count.
-fn counted(record: &[u8], content: Content, i: u64, which: Which) -> u64
+fn counted(rt: &impl Print, record: &[u8], content: Content, i: u64, which: Which) -> u64
     requires { 0 < length «record».now }
     ensures { result ≤ length «record».now }
 {
@@ -168,17 +171,17 @@ fn counted(record: &[u8], content: Content, i: u64, which: Which) -> u64
         Which::Agreeing(number) => one_if(expects(record, number) & agrees(record, content)),
         Which::All => 1,
         Which::Questions => questions(record),
-        Which::Differing => one_if(differs(record, content, i)),
+        Which::Differing => one_if(differs(rt, record, content, i)),
     }
 }
 
-fn count(data: &[u8], content: Content, which: Which) -> u64 {
+fn count(rt: &impl Print, data: &[u8], content: Content, which: Which) -> u64 {
     let mut total: u64 = 0;
     let mut at = 0;
     let mut i: u64 = 0;
     while at < data.len() {
         let end = at + record_size(&data[at..], content);
-        total += counted(&data[at..end], content, i, which);
+        total += counted(rt, &data[at..end], content, i, which);
         at = end;
         i += 1;
     }
@@ -186,59 +189,65 @@ fn count(data: &[u8], content: Content, which: Which) -> u64 {
 }
 
 // A line with the two counts of a number.
-fn print_number(data: &[u8], content: Content, label: &[u8], number: u8) {
-    let agreeing = count(data, content, Which::Agreeing(number));
+fn print_number(rt: &impl Print, data: &[u8], content: Content, label: &[u8], number: u8) {
+    let agreeing = count(rt, data, content, Which::Agreeing(number));
     test_report::share(
+        rt,
         label,
         agreeing,
-        count(data, content, Which::Expecting(number)),
+        count(rt, data, content, Which::Expecting(number)),
     );
 }
 
-fn print_numbers(data: &[u8], content: Content) {
-    print_number(data, content, b"accepted: ", 0);
-    print_number(data, content, b"refused 1: ", 1);
-    print_number(data, content, b"refused 2: ", 2);
-    print_number(data, content, b"refused 3: ", 3);
-    print_number(data, content, b"refused 4: ", 4);
-    print_number(data, content, b"refused 5: ", 5);
-    print_number(data, content, b"refused 6: ", 6);
-    print_number(data, content, b"refused 7: ", 7);
+fn print_numbers(rt: &impl Print, data: &[u8], content: Content) {
+    print_number(rt, data, content, b"accepted: ", 0);
+    print_number(rt, data, content, b"refused 1: ", 1);
+    print_number(rt, data, content, b"refused 2: ", 2);
+    print_number(rt, data, content, b"refused 3: ", 3);
+    print_number(rt, data, content, b"refused 4: ", 4);
+    print_number(rt, data, content, b"refused 5: ", 5);
+    print_number(rt, data, content, b"refused 6: ", 6);
+    print_number(rt, data, content, b"refused 7: ", 7);
 }
 
 // What is printed of the records of one content alone.
-fn print_own(data: &[u8], content: Content) {
+fn print_own(rt: &impl Print, data: &[u8], content: Content) {
     match content {
         Content::Books => {
-            test_report::total(b"books: ", count(data, content, Which::All));
-            test_report::total(b"identifiers: ", count(data, content, Which::Questions));
+            test_report::total(rt, b"books: ", count(rt, data, content, Which::All));
+            test_report::total(
+                rt,
+                b"identifiers: ",
+                count(rt, data, content, Which::Questions),
+            );
         }
         Content::Calls => {
-            print_number(data, content, b"refused 23: ", 23);
-            test_report::total(b"calls: ", count(data, content, Which::All));
+            print_number(rt, data, content, b"refused 23: ", 23);
+            test_report::total(rt, b"calls: ", count(rt, data, content, Which::All));
         }
     }
 }
 
-fn compare(name: &[u8], content: Content) {
-    let mut buf = io::large_buffer();
-    let n = test_report::load(name, &mut buf);
-    test_report::heading(name);
-    print_numbers(&buf[..n], content);
-    print_own(&buf[..n], content);
+fn compare(rt: &(impl Files + Print + Eprint), name: &[u8], content: Content) {
+    let mut buf = [0u8; 65536];
+    let n = test_report::load(rt, name, &mut buf);
+    test_report::heading(rt, name);
+    print_numbers(rt, &buf[..n], content);
+    print_own(rt, &buf[..n], content);
     test_report::total(
+        rt,
         b"differences: ",
-        count(&buf[..n], content, Which::Differing),
+        count(rt, &buf[..n], content, Which::Differing),
     );
 }
 
-fn main() {
-    compare(b"sizes.bin", Content::Books);
-    compare(b"faults.bin", Content::Books);
-    compare(b"pairs.bin", Content::Books);
-    compare(b"random.bin", Content::Books);
-    compare(b"payments.bin", Content::Books);
-    compare(b"writer_rules.bin", Content::Calls);
-    compare(b"writer_built.bin", Content::Calls);
-    compare(b"writer_random.bin", Content::Calls);
+fn main(rt: HostRuntime) {
+    compare(&rt, b"sizes.bin", Content::Books);
+    compare(&rt, b"faults.bin", Content::Books);
+    compare(&rt, b"pairs.bin", Content::Books);
+    compare(&rt, b"random.bin", Content::Books);
+    compare(&rt, b"payments.bin", Content::Books);
+    compare(&rt, b"writer_rules.bin", Content::Calls);
+    compare(&rt, b"writer_built.bin", Content::Calls);
+    compare(&rt, b"writer_random.bin", Content::Calls);
 }

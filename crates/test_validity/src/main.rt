@@ -4,18 +4,18 @@
 //
 // A case has 72 bytes: a label of 40, filled up with spaces; eight changes of 4, those not used 0.
 #![tactic(auto)]
+
 mod tables;
 
-use libc::STDOUT_FILENO;
 use table::Table;
 
 // The label and the answer that check 9 has for the table.
-fn print_answer(label: &[u8], t: Table) {
-    io::write_all(STDOUT_FILENO, label);
+fn print_answer(rt: &impl Print, label: &[u8], t: Table) {
+    let _ = rt.write_all(label);
     if validity::table_ok(t) {
-        io::write_all(STDOUT_FILENO, b"0\n");
+        let _ = rt.println("0");
     } else {
-        io::write_all(STDOUT_FILENO, b"9\n");
+        let _ = rt.println("9");
     }
 }
 
@@ -44,26 +44,26 @@ fn damaged(case: &[u8]) -> Table {
     t
 }
 
-fn try_case(case: &[u8]) {
+fn try_case(rt: &impl Print, case: &[u8]) {
     if case.len() != 72 {
         return;
     }
-    print_answer(&case[0..40], damaged(case));
+    print_answer(rt, &case[0..40], damaged(case));
 }
 
-fn try_cases(data: &[u8]) {
+fn try_cases(rt: &impl Print, data: &[u8]) {
     let n = data.len() / 72;
     let mut i: usize = 0;
     while i < n {
         let at = 72 * i;
         let end = at + 72;
-        try_case(&data[at..end]);
+        try_case(rt, &data[at..end]);
         i += 1;
     }
 }
 
-fn main() {
-    let mut buf = io::large_buffer();
-    let n = test_report::load(b"cases.bin", &mut buf);
-    try_cases(&buf[..n]);
+fn main(rt: HostRuntime) {
+    let mut buf = [0u8; 65536];
+    let n = test_report::load(&rt, b"cases.bin", &mut buf);
+    try_cases(&rt, &buf[..n]);
 }

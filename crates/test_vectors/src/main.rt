@@ -8,10 +8,12 @@
 // Of a term the class is 1 for a zero-coupon bond, 2 for a fixed coupon bond, 7 for a refusal; then come the 19 bytes of the term,
 // 4 bytes 0, and the bits of the expected price, little-endian, 0 for a refusal.
 #![tactic(auto)]
+
 ghost use Rattle.std.specs.Prelude.{◌≡◌, length};
 
 use book_term::Reading;
 use pricer::{Bond, Terms};
+use std::rt::Files;
 
 const ZERO: u8 = 1;
 
@@ -20,14 +22,14 @@ const FIXED: u8 = 2;
 const REFUSED: u8 = 7;
 
 // What the records of a file are.
-#[derive(Drop)]
+#[derive(Clone, Copy)]
 enum Content {
     Identifiers,
     TermsAndPrices,
 }
 
 // Which records are counted: those of a class, those of them that agree, or those of any class that do not.
-#[derive(Drop)]
+#[derive(Clone, Copy)]
 enum Which {
     Expecting(u8),
     Agreeing(u8),
@@ -85,35 +87,35 @@ fn expects(record: &[u8], class: u8) -> bool
 }
 
 // Whether the record differs from what it expects; if so, its number i is printed.
-fn differs(record: &[u8], i: usize, content: Content) -> bool
+fn differs(rt: &impl Print, record: &[u8], i: usize, content: Content) -> bool
     requires { length «record».now ≡ 32 }
 {
     if agrees(record, content) {
         return false;
     }
-    test_report::difference(i as u64);
+    test_report::difference(rt, i as u64);
     true
 }
 
 // Whether the record of number i is one of those to be counted.
-fn is_counted(record: &[u8], i: usize, content: Content, which: Which) -> bool
+fn is_counted(rt: &impl Print, record: &[u8], i: usize, content: Content, which: Which) -> bool
     requires { length «record».now ≡ 32 }
 {
     match which {
         Which::Expecting(class) => expects(record, class),
         Which::Agreeing(class) => expects(record, class) & agrees(record, content),
-        Which::Differing => differs(record, i, content),
+        Which::Differing => differs(rt, record, i, content),
     }
 }
 
-fn count(data: &[u8], content: Content, which: Which) -> u64 {
+fn count(rt: &impl Print, data: &[u8], content: Content, which: Which) -> u64 {
     let n = data.len() / 32;
     let mut total: u64 = 0;
     let mut i = 0;
     while i < n {
         let at = 32 * i;
         let end = at + 32;
-        if is_counted(&data[at..end], i, content, which) {
+        if is_counted(rt, &data[at..end], i, content, which) {
             total += 1;
         }
         i += 1;
@@ -122,48 +124,53 @@ fn count(data: &[u8], content: Content, which: Which) -> u64 {
 }
 
 // A line with the two counts of a class.
-fn print_class(data: &[u8], content: Content, label: &[u8], class: u8) {
-    let agreeing = count(data, content, Which::Agreeing(class));
+fn print_class(rt: &impl Print, data: &[u8], content: Content, label: &[u8], class: u8) {
+    let agreeing = count(rt, data, content, Which::Agreeing(class));
     test_report::share(
+        rt,
         label,
         agreeing,
-        count(data, content, Which::Expecting(class)),
+        count(rt, data, content, Which::Expecting(class)),
     );
 }
 
-fn print_classes(data: &[u8], content: Content) {
+fn print_classes(rt: &impl Print, data: &[u8], content: Content) {
     match content {
         Content::Identifiers => {
-            print_class(data, content, b"verdict 0: ", 0);
-            print_class(data, content, b"verdict 4: ", 4);
-            print_class(data, content, b"verdict 5: ", 5);
+            print_class(rt, data, content, b"verdict 0: ", 0);
+            print_class(rt, data, content, b"verdict 4: ", 4);
+            print_class(rt, data, content, b"verdict 5: ", 5);
         }
         Content::TermsAndPrices => {
-            print_class(data, content, b"zero-coupon: ", ZERO);
-            print_class(data, content, b"fixed coupon: ", FIXED);
-            print_class(data, content, b"refused: ", REFUSED);
+            print_class(rt, data, content, b"zero-coupon: ", ZERO);
+            print_class(rt, data, content, b"fixed coupon: ", FIXED);
+            print_class(rt, data, content, b"refused: ", REFUSED);
         }
     }
 }
 
-fn print_counts(data: &[u8], content: Content) {
-    print_classes(data, content);
+fn print_counts(rt: &impl Print, data: &[u8], content: Content) {
+    print_classes(rt, data, content);
     let n = data.len() / 32;
-    test_report::total(b"records: ", n as u64);
-    test_report::total(b"differences: ", count(data, content, Which::Differing));
+    test_report::total(rt, b"records: ", n as u64);
+    test_report::total(
+        rt,
+        b"differences: ",
+        count(rt, data, content, Which::Differing),
+    );
 }
 
-fn compare(name: &[u8], content: Content) {
-    let mut buf = io::large_buffer();
-    let n = test_report::load(name, &mut buf);
-    test_report::heading(name);
-    print_counts(&buf[..n], content);
+fn compare(rt: &(impl Files + Print + Eprint), name: &[u8], content: Content) {
+    let mut buf = [0u8; 65536];
+    let n = test_report::load(rt, name, &mut buf);
+    test_report::heading(rt, name);
+    print_counts(rt, &buf[..n], content);
 }
 
-fn main() {
-    compare(b"identifiers_1.bin", Content::Identifiers);
-    compare(b"identifiers_2.bin", Content::Identifiers);
-    compare(b"terms.bin", Content::TermsAndPrices);
-    compare(b"prices.bin", Content::TermsAndPrices);
-    compare(b"prices_by_payments.bin", Content::TermsAndPrices);
+fn main(rt: HostRuntime) {
+    compare(&rt, b"identifiers_1.bin", Content::Identifiers);
+    compare(&rt, b"identifiers_2.bin", Content::Identifiers);
+    compare(&rt, b"terms.bin", Content::TermsAndPrices);
+    compare(&rt, b"prices.bin", Content::TermsAndPrices);
+    compare(&rt, b"prices_by_payments.bin", Content::TermsAndPrices);
 }

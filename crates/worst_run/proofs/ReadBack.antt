@@ -7,7 +7,7 @@ use lib.Seq.{take_at, drop_at}
 use Rattle.dispatcher.specs.Events.{events_in}
 use Rattle.dispatcher.proofs.Bytes.{events_read}
 use Rattle.worst_run.specs.Worst.{worst_run, worst_bytes, worst_number}
-use Rattle.worst_run.specs.ReadBack.{Sizes, Read, ReadBack}
+use Rattle.worst_run.specs.ReadBack.{Read, ReadBack}
 use Rattle.worst_run.proofs.Bytes.{three_run, length_run, length_bytes}
 use Rattle.worst_run.proofs.Numbers.{accepted}
 

@@ -1,6 +1,7 @@
 // The run that copies most (document 02, 2.7): the events that drive the replica number of job 0 as high as so many deaths can, written to the front
 // of a lent buffer.
 #![tactic(auto)]
+
 ghost use Rattle.std.specs.Prelude.{◌≡◌, ◌+◌, ◌≤◌, length};
 ghost use mathlib.Core.List.{flatten};
 ghost use Rattle.text.specs.Text.{Written};

@@ -357,7 +357,7 @@ returns c =
     let l = c.loop-k in
     let a = c.args in
     let e = turn_end a.t a.s.now a.numbers.now l.k l.u l.numbers (omega arith) l.invariant.2 in
-    record { value = e.0; numbers_after = e.1; }
+    record { value = e.0; numbers_after = e.1 }
 
 pub loop-k-init : goal.loop-k-init
 loop-k-init c = let a = c.args in (omega arith, refl, turn_none a.t a.s.now a.numbers.now)

@@ -14,9 +14,9 @@ returns-then-bytes-lt3 c =
 
 pub run-u-requires : goal.run-u-requires
 run-u-requires c = record {
-      t_value = sym c.table_ok.ensures ∙ c.if-not-table_ok.false;
-      s_len_bound = three_bytes c.args.bytes.now c.if-bytes-lt3.false;
-    }
+  t_value = sym c.table_ok.ensures ∙ c.if-not-table_ok.false;
+  s_len_bound = three_bytes c.args.bytes.now c.if-bytes-lt3.false;
+}
 
 pub returns : goal.returns
 returns c = let r = c.run-u.ensures in step_run _ _ c.if-bytes-lt3.false _ _ _ r.value r.numbers_after
