@@ -4,10 +4,10 @@
 -- words mean is document 01's "A run, and the words of demand 3". It is stated over definitions alone; its proof is `demand_3` in
 -- proofs/Demand3.antt, and that of the sentence on two runs `runs_agree` beside it.
 --
---   open_of book .table      the fresh table of the book                       (table_opening)
---   step_of t e              the answer to event e on table t, and its table   (dispatcher)
---   run_of t es              the table after the events es                     (dispatcher)
---   answers_of t es          the numbers that they are answered                (dispatcher)
+--   (open_of book).table  the fresh table of the book                      (table_opening)
+--   step_of t e           the answer to event e on table t, and its table  (dispatcher)
+--   run_of t es           the table after the events es                    (dispatcher)
+--   answers_of t es       the numbers that they are answered               (dispatcher)
 --   count_of, admits, kills, finds, results_of, state_after, serial_of, all_further (History)
 use Rattle.std.specs.Prelude.{ℕ, ◌+◌, ◌≤◌, ◌<◌, ◌≡◌, ◌≢◌, true, List, [], ◌∷◌, ◌++◌, length, get_or, replicate}
 use Rattle.book.specs.Parts.{entry_count_of}

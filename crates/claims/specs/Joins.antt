@@ -3,12 +3,12 @@
 -- limit of 879 further events stand": demand 3 and `RunsAgree` (Claims.antt) are over any lists of events, those with joins too. What is said of one
 -- event holds of every table that passes check 9, of a run or not (`joinable` there).
 --
---   t.«machine_count»               how many machines the table t has              (table)
---   machine_count_of book                how many the book has                          (book)
---   joined t a                       t with machine a                               (event_join)
---   step_of, run_of, event_of           one event, a list, an event's own refusals     (dispatcher)
---   is_further, well_formed            what may be a further event; what 10 lets in   (dispatcher)
---   count_of, is_accepted              what a list of events did                      (History)
+--   t.machine_count            how many machines the table t has             (table)
+--   machine_count_of book      how many the book has                         (book)
+--   joined t a                 t with machine a                              (event_join)
+--   step_of, run_of, event_of  one event, a list, an event's own refusals    (dispatcher)
+--   is_further, well_formed    what may be a further event; what 10 lets in  (dispatcher)
+--   count_of, is_accepted      what a list of events did                     (History)
 use Rattle.std.specs.Prelude.{ℕ, ◌+◌, ◌≤◌, ◌<◌, ◌≡◌, ◌≢◌, Bool, true, false, cond, ◌&&◌, List, eqb, leb, ltb}
 use Rattle.book.specs.Parts.{machine_count_of}
 use Rattle.table.specs.declared.Table.{Table}

@@ -2,10 +2,10 @@
 -- accepted book. It is stated over definitions alone; its proof is `open_jobs` in proofs/Open.antt. That a table of which it is not so is refused 9, and
 -- that the question reads this number only, are promises of the crates `validity` and `dispatcher`.
 --
---   t.«open_jobs»                   the number that the table t keeps               (table)
---   recount t                        how many of its jobs are open                   (table)
---   step_of, run_of                    one event, and a list of them                   (dispatcher)
---   count_of, is_accepted, taken_off    what a list of events did                       (History)
+--   t.open_jobs                       the number that the table t keeps  (table)
+--   recount t                         how many of its jobs are open      (table)
+--   step_of, run_of                   one event, and a list of them      (dispatcher)
+--   count_of, is_accepted, taken_off  what a list of events did          (History)
 use Rattle.std.specs.Prelude.{ℕ, ◌+◌, ◌≡◌, Bool, true, false, ◌&&◌, List, eqb}
 use Rattle.table.specs.declared.Table.{Table}
 use Rattle.table.specs.Views.{job_at}

@@ -2,11 +2,11 @@
 -- every run from it. Together: k + 1 is the highest replica number that k deaths can cause, and it is reached. It is stated over definitions alone; its
 -- proof is `worst_run_lem` in proofs/WorstRun.antt.
 --
---   worst_number, worst_buffer  the number of a call, and the buffer after it   (worst_run)
---   events_in                  the events of a list of bytes                   (dispatcher)
---   open_of book .table        the fresh table of the book                     (table_opening)
+--   worst_number, worst_buffer  the number of a call, and the buffer after it                   (worst_run)
+--   events_in                   the events of a list of bytes                                   (dispatcher)
+--   (open_of book).table        the fresh table of the book                                     (table_opening)
 --   answers_of, run_of          the numbers that events are answered, and the table after them  (dispatcher)
---   count_of kills             how many of them are accepted deaths            (claims, History)
+--   count_of kills              how many of them are accepted deaths                            (claims, History)
 use Rattle.std.specs.Prelude.{ℕ, ◌+◌, ◌*◌, ◌≤◌, ◌<◌, ◌≡◌, List, length, take, replicate}
 use Rattle.book.specs.Parts.{machine_count_of, entry_count_of}
 use Rattle.table.specs.declared.Table.{Table}

@@ -30,11 +30,11 @@ pub handled_job_below : (m : Message) (low : ℕ) → m.job < 64 → handled_job
 unfolding handled_job
 handled_job_below m low l = cond_elim (λ j. j < 64) (eqb m.kind FISH) (fish_job low) m.job (fish_job_below low) l
 
-module _ (t : Table) (m : Message) (low : ℕ) (is-lowest : m.kind ≡ FISH → low ≡ lowest t m.to) where
+module _ (t : Table) (m : Message) (low : ℕ) (is_lowest : m.kind ≡ FISH → low ≡ lowest t m.to) where
   pub made_handle : made t m.to (handled_job m low) (handle_change (parts_at t m.to (handled_job m low)) m (told_at t 0 m.thief) low) ≡ handle t m
   unfolding handled_job handle_change handle
   made_handle =
-      by_bool (eqb m.kind FISH) (λ a. rw (a, is-lowest (eqb-true _ _ a)) (made_fish t m))
+      by_bool (eqb m.kind FISH) (λ a. rw (a, is_lowest (eqb-true _ _ a)) (made_fish t m))
       (λ a1. by_bool (eqb m.kind REQ) (λ a. rw (a1, a) (made_req t m.to m))
       (λ a2. by_bool (eqb m.kind AUTH) (λ a. rw (a1, a2, a) (made_auth t m))
       (λ a3. by_bool (eqb m.kind DENIED) (λ a. rw (a1, a2, a3, a) (made_denied t m))

@@ -1,9 +1,9 @@
 -- Document 02, 2.7: what is claimed of the bytes of the run, and of a buffer after a call that is not refused. It is stated over definitions alone;
 -- its proof is `read_back` in proofs/ReadBack.antt.
 --
---   worst_run, worst_bytes      the events of k deaths, and their bytes         (Worst)
---   worst_number, worst_buffer  the number of a call, and the buffer after it   (Worst)
---   events_in                  the events of a list of bytes                   (dispatcher)
+--   worst_run, worst_bytes      the events of k deaths, and their bytes        (Worst)
+--   worst_number, worst_buffer  the number of a call, and the buffer after it  (Worst)
+--   events_in                   the events of a list of bytes                  (dispatcher)
 use Rattle.std.specs.Prelude.{ℕ, ◌+◌, ◌*◌, ◌≡◌, List, length, take, drop}
 use Rattle.dispatcher.specs.Events.{events_in}
 use Rattle.worst_run.specs.Worst.{worst_run, worst_bytes, worst_number, worst_buffer}

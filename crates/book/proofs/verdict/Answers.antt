@@ -10,13 +10,13 @@ use Rattle.book.proofs.verdict.Goals as goal
 use Rattle.book.proofs.verdict.Goals.{After-sizes_in_range, Else-not-sizes_in_range}
 
 -- the test of the sizes, in the definition's words
-sizes-is : (c : After-sizes_in_range) → let s = c.args.s.now in
+sizes_is : (c : After-sizes_in_range) → let s = c.args.s.now in
     sizes_in_range (raw_machine_count s) (raw_entry_count s) ≡ c.sizes_in_range.result
-sizes-is c = sym (c.sizes_in_range.ensures ∙ rw (c.u16_at-n.ensures, c.u16_at-m.ensures))
+sizes_is c = sym (c.sizes_in_range.ensures ∙ rw (c.u16_at-n.ensures, c.u16_at-m.ensures))
 
 passed : (c : Else-not-sizes_in_range) → let s = c.args.s.now in
     sizes_in_range (raw_machine_count s) (raw_entry_count s) ≡ true
-passed c = sizes-is (goal.at.Else-not-sizes_in_range c).After-sizes_in_range ∙ c.if-not-sizes_in_range.false
+passed c = sizes_is (goal.at.Else-not-sizes_in_range c).After-sizes_in_range ∙ c.if-not-sizes_in_range.false
 
 pub returns-then-s-lt4 : goal.returns-then-s-lt4
 unfolding book_verdict
@@ -24,7 +24,7 @@ returns-then-s-lt4 c = search flags
 
 pub returns-then-not-sizes_in_range : goal.returns-then-not-sizes_in_range
 unfolding book_verdict
-returns-then-not-sizes_in_range c = rw (sizes-is (goal.at.returns-then-not-sizes_in_range c).After-sizes_in_range ∙ c.if-not-sizes_in_range.true) (search flags)
+returns-then-not-sizes_in_range c = rw (sizes_is (goal.at.returns-then-not-sizes_in_range c).After-sizes_in_range ∙ c.if-not-sizes_in_range.true) (search flags)
 
 pub returns-then-s-entries : goal.returns-then-s-entries
 unfolding book_verdict

@@ -9,8 +9,8 @@ use Rattle.book_writer.specs.Writer.{add_number}
 use Rattle.book_writer.proofs.number.Goals as goal
 
 -- the first bytes, as the code takes them
-first-bytes : (b : List ℕ) (count : ℕ) → take (count - 0) (drop 0 b) ≡ take count b
-first-bytes b count = let m : count - 0 ≡ count = omega arith in rw m
+first_bytes : (b : List ℕ) (count : ℕ) → take (count - 0) (drop 0 b) ≡ take count b
+first_bytes b count = let m : count - 0 ≡ count = omega arith in rw m
 
 pub returns-then-buffer-count : goal.returns-then-buffer-count
 unfolding add_number
@@ -20,4 +20,4 @@ pub returns : goal.returns
 unfolding add_number
 returns c =
     let a = c.args in
-    rw (le-ltb _ _ c.if-buffer-count.false, ← first-bytes a.buffer.now a.count) c.book_number.ensures
+    rw (le-ltb _ _ c.if-buffer-count.false, ← first_bytes a.buffer.now a.count) c.book_number.ensures

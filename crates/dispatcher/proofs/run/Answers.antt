@@ -36,8 +36,8 @@ use Rattle.dispatcher.proofs.run.Goals as goal
 use Rattle.dispatcher.proofs.run.Goals.{After-change_of-change, After-counted, After-kept-keep, After-loop-slot, After-loop-slot-else-ask-ge-DIE, After-number_of-number, After-open_after, After-place_of-place, In-loop-k, In-loop-slot, In-loop-slot-else-ask-ge-DIE}
 
 -- in a turn; past the search; where the event looks; its number; its change; how many jobs are open after it; how many messages stay
-abbrev In-turn : Type 0
-In-turn = In-loop-k
+abbrev InTurn : Type 0
+InTurn = In-loop-k
 
 abbrev Searched : Type 0
 Searched = After-loop-slot
@@ -57,13 +57,13 @@ Counted = After-open_after
 abbrev Keeping : Type 0
 Keeping = After-kept-keep
 
-abbrev began : Searched → In-turn
+abbrev began : Searched → InTurn
 began c = (goal.at.After-loop-slot c).In-loop-k
 
 abbrev searched : Looking → Searched
 searched c = (goal.at.After-place_of-place c).After-loop-slot
 
-abbrev turn : Looking → In-turn
+abbrev turn : Looking → InTurn
 turn c = (goal.at.After-place_of-place c).In-loop-k
 
 abbrev looking : Numbered → Looking
@@ -76,38 +76,38 @@ numbered c = (goal.at.After-change_of-change c).After-number_of-number
 abbrev recounted : Keeping → Counted
 recounted c = (goal.at.After-kept-keep c).After-open_after
 
-abbrev before-count : Counted → Changed
-before-count c = (goal.at.After-open_after c).After-change_of-change
+abbrev before_count : Counted → Changed
+before_count c = (goal.at.After-open_after c).After-change_of-change
 
 abbrev changed : Keeping → Changed
 changed c = (goal.at.After-kept-keep c).After-change_of-change
 
 -- the table of the turn, and its event
-abbrev table : In-turn → Table
+abbrev table : InTurn → Table
 table c = c.loop-k.u
 
-abbrev bytes : In-turn → List ℕ
+abbrev bytes : InTurn → List ℕ
 bytes c = c.args.s.now
 
-abbrev event : In-turn → List ℕ
+abbrev event : InTurn → List ℕ
 event c = event_at (bytes c) c.loop-k.k
 
 -- its table passes check 9, and its arrays have their lengths
-passed : (c : In-turn) → table_ok (table c) ≡ true
+passed : (c : InTurn) → table_ok (table c) ≡ true
 passed c =
     let l = c.loop-k in
     let s = c in
     let t = s.args.t in
     rw l.invariant.2.table (run_ok t (tabulate (event_at (bytes c)) l.k) (passed_sized t (long t _ s.well_formed.0) s.requires.t_value) s.requires.t_value)
 
-measured : (c : In-turn) → Sized (table c)
+measured : (c : InTurn) → Sized (table c)
 measured c =
     let l = c.loop-k in
     let s = c in
     let t = s.args.t in
     rw l.invariant.2.table (run_sized t (tabulate (event_at (bytes c)) l.k) (passed_sized t (long t _ s.well_formed.0) s.requires.t_value))
 
-fit : (c : In-turn) → Ready (table c)
+fit : (c : InTurn) → Ready (table c)
 fit c = ready (table c) (measured c) (passed c)
 
 -- the search has ended
@@ -138,8 +138,8 @@ looked c =
       place = c.place_of-place.ensures;
     }
 
-within-arrays : (c : Looking) → Placed c.place_of-place.result
-within-arrays c = look_placed _ (measured (turn c)) (passed (turn c)) _ _ _ _ _ _ (looked c)
+within_arrays : (c : Looking) → Placed c.place_of-place.result
+within_arrays c = look_placed _ (measured (turn c)) (passed (turn c)) _ _ _ _ _ _ (looked c)
 
 -- the number is that of the event
 answered : (c : Numbered) → c.number_of-number.result ≡ (answer_of (table (turn (looking c))) (event (turn (looking c)))).number
@@ -149,12 +149,12 @@ answered c =
     c.number_of-number.ensures ∙ look_number _ (measured i) (passed i) _ _ _ _ _ _ (looked (looking c))
 
 -- events are left
-going : (c : In-turn) → c.loop-k.k < event_count (bytes c)
+going : (c : InTurn) → c.loop-k.k < event_count (bytes c)
 going c = omega arith
 
 -- and the buffer has a place for the number
-place-left : (c : In-turn) → c.loop-k.k < length c.loop-k.numbers
-place-left c = omega (arith, going c, c.loop-k.invariant.1, c.requires.s_len_bound.1)
+place_left : (c : InTurn) → c.loop-k.k < length c.loop-k.numbers
+place_left c = omega (arith, going c, c.loop-k.invariant.1, c.requires.s_len_bound.1)
 
 -- then one fewer
 fewer : (c : Numbered)
@@ -185,35 +185,35 @@ again c v y =
     )
 
 -- it is that of the event
-change-is : (c : Changed)
+change_is : (c : Changed)
     → let w = looking (numbered c) in
     c.change_of-change.result ≡ change _ (measured (turn w)) (passed (turn w)) _ _ _ _ _ _ (looked w)
 unfolding parts_at parts
-change-is c = c.change_of-change.ensures
+change_is c = c.change_of-change.ensures
 
 -- the parts are written, and the number of open jobs goes with the job's state
 written_is : (c : Counted)
-    → let d = before-count c in
+    → let d = before_count c in
     let w = looking (numbered d) in
     let u = written (table (turn w)) w.place_of-place.result.machine w.place_of-place.result.job d.change_of-change.result in
     with_open u c.open_after.result ≡ u
 unfolding parts
 written_is c =
-    let d = before-count c in
+    let d = before_count c in
     let w = looking (numbered d) in
     let i = turn w in
-    with_open_lem _ _ (c.open_after.ensures ∙ sym (open_job_in (table i) w.place_of-place.result.job d.change_of-change.result.job (measured i) (within-arrays w).job))
+    with_open_lem _ _ (c.open_after.ensures ∙ sym (open_job_in (table i) w.place_of-place.result.job d.change_of-change.result.job (measured i) (within_arrays w).job))
 
-kept-is : (c : Keeping)
+kept_is : (c : Keeping)
     → let w = looking (numbered (changed c)) in
     c.kept-keep.result ≡ kept (searched w).loop-slot.slot (table (turn w)).in_flight
-kept-is c = c.kept-keep.ensures
+kept_is c = c.kept-keep.ensures
 
-kept-room : (c : Keeping) → c.kept-keep.result ≤ 128
-kept-room c =
+kept_room : (c : Keeping) → c.kept-keep.result ≤ 128
+kept_room c =
     let w = looking (numbered (changed c)) in
     let h = kept_most (searched w).loop-slot.slot (table (turn w)).in_flight in
-    rw (kept-is c) (omega (arith, (fit (turn w)).flight))
+    rw (kept_is c) (omega (arith, (fit (turn w)).flight))
 
 -- what moves up comes from a slot
 moves : (c : In-loop-slot-else-ask-ge-DIE) → c.loop-slot-else-ask-ge-DIE.slot + 1 < 128
@@ -222,7 +222,7 @@ moves c =
     let i = turn (looking (numbered (changed k))) in
     let v = c.loop-slot-else-ask-ge-DIE in
     let l : v.slot < k.kept-keep.result = omega arith in
-    let h : v.slot + 1 < (table i).in_flight = kept_next _ _ _ v.invariant.0 (rw (kept-is k) at l) in
+    let h : v.slot + 1 < (table i).in_flight = kept_next _ _ _ v.invariant.0 (rw (kept_is k) at l) in
     omega (arith, (fit i).flight)
 
 -- and goes as far as those that stay
@@ -249,18 +249,18 @@ settles c =
     let x = d.change_of-change.result in
     let up = v.invariant.2
     ∙ ap (λ (y : Table). moved_up y (searched w).loop-slot.slot v.slot) (written_is (recounted k))
-    ∙ ap (λ (y : Change). moved_up (written (table i) o.machine o.job y) (searched w).loop-slot.slot v.slot) (change-is d) in
+    ∙ ap (λ (y : Change). moved_up (written (table i) o.machine o.job y) (searched w).loop-slot.slot v.slot) (change_is d) in
     let last =
     c.stored-last.ensures
     ∙ ap (λ (y : Table). stored x.sent (machine_at y x.sent.to)) v.invariant.2
-    ∙ ap (λ (y : Change). stored y.sent (machine_at (written (table i) o.machine o.job y) y.sent.to)) (change-is d) in
+    ∙ ap (λ (y : Change). stored y.sent (machine_at (written (table i) o.machine o.job y) y.sent.to)) (change_is d) in
     let early : (searched w).ask_of-ask.result.code < DIE = omega (arith, d.if-ask-ge-DIE.false) in
     let zero = sym (answered n) ∙ d.if-number-eq0.true in
     let end = moved (goal.at.After-counted c).After-loop-slot-else-ask-ge-DIE in (
       (λ h. ap (λ (y : ℕ). with_messages v.u y (set v.u.messages k.kept-keep.result c.stored-last.result)) c.counted.ensures
-          ∙ look_some _ (measured i) (passed i) _ _ _ _ _ _ (looked w) early zero v.u v.slot k.kept-keep.result _ (kept-is k) up end last h),
+          ∙ look_some _ (measured i) (passed i) _ _ _ _ _ _ (looked w) early zero v.u v.slot k.kept-keep.result _ (kept_is k) up end last h),
       (λ h. ap (λ (y : ℕ). with_messages v.u y v.u.messages) c.counted.ensures
-          ∙ look_full _ (measured i) (passed i) _ _ _ _ _ _ (looked w) early zero v.u v.slot k.kept-keep.result _ (kept-is k) up end last h),
+          ∙ look_full _ (measured i) (passed i) _ _ _ _ _ _ (looked w) early zero v.u v.slot k.kept-keep.result _ (kept_is k) up end last h),
     )
 
 pub loop-slot-preserved-then-in_channel : goal.loop-slot-preserved-then-in_channel
@@ -306,7 +306,7 @@ pub bounds-u-running : goal.bounds-u-running
 unfolding parts
 bounds-u-running c =
     let w = (goal.at.bounds-u-running c).After-place_of-place in
-    let r = (fit (turn w)).running _ (within-arrays w).machine in search rules
+    let r = (fit (turn w)).running _ (within_arrays w).machine in search rules
 
 pub change_of-change-requires : goal.change_of-change-requires
 change_of-change-requires c = let w = (goal.at.change_of-change-requires c).After-place_of-place in steal_below _ (fit (turn w)) _ _ (looked w).asked
@@ -315,7 +315,7 @@ pub open_after-requires : goal.open_after-requires
 unfolding parts
 open_after-requires c =
     let w = (goal.at.open_after-requires c).After-place_of-place in
-    open_fits (table (turn w)) (passed (turn w)) w.place_of-place.result.job (within-arrays w).job
+    open_fits (table (turn w)) (passed (turn w)) w.place_of-place.result.job (within_arrays w).job
 
 pub loop-slot-else-ask-ge-DIE-init : goal.loop-slot-else-ask-ge-DIE-init
 unfolding parts
@@ -324,7 +324,7 @@ loop-slot-else-ask-ge-DIE-init c =
     let i = turn w in
     let o = (looked w).most in
     let h : (searched w).loop-slot.slot ≤ length (table i).messages = omega (arith, (fit i).flight, (measured i).messages) in
-    (omega arith, rw (kept-is (goal.at.loop-slot-else-ask-ge-DIE-init c).After-kept-keep) (kept_least _ _ o), moved_none _ _ h)
+    (omega arith, rw (kept_is (goal.at.loop-slot-else-ask-ge-DIE-init c).After-kept-keep) (kept_least _ _ o), moved_none _ _ h)
 
 pub loop-slot-else-ask-ge-DIE-preserved : goal.loop-slot-else-ask-ge-DIE-preserved
 unfolding parts
@@ -338,7 +338,7 @@ pub bounds-u-sent : goal.bounds-u-sent
 bounds-u-sent c =
     let d = (goal.at.bounds-u-sent c).After-change_of-change in
     let w = looking (numbered d) in
-    let h : d.change_of-change.result.sent.to < 16 = rw (change-is d) (look_to _ (measured (turn w)) (passed (turn w)) _ _ _ _ _ _ (looked w)) in
+    let h : d.change_of-change.result.sent.to < 16 = rw (change_is d) (look_to _ (measured (turn w)) (passed (turn w)) _ _ _ _ _ _ (looked w)) in
     search rules
 
 pub loop-k-preserved-then-keep-lt128 : goal.loop-k-preserved-then-keep-lt128
@@ -378,55 +378,55 @@ pub overflow_add-slot : goal.overflow_add-slot
 overflow_add-slot c = let h = in_use (goal.at.overflow_add-slot c).In-loop-slot in search rules
 
 pub overflow_mul-cell_at : goal.overflow_mul-cell_at
-overflow_mul-cell_at c = let p = within-arrays (goal.at.overflow_mul-cell_at c).After-place_of-place in search rules
+overflow_mul-cell_at c = let p = within_arrays (goal.at.overflow_mul-cell_at c).After-place_of-place in search rules
 
 pub overflow_add-cell_at : goal.overflow_add-cell_at
-overflow_add-cell_at c = let p = within-arrays (goal.at.overflow_add-cell_at c).After-place_of-place in search rules
+overflow_add-cell_at c = let p = within_arrays (goal.at.overflow_add-cell_at c).After-place_of-place in search rules
 
 pub offset_bounds-u-machine_at : goal.offset_bounds-u-machine_at
-offset_bounds-u-machine_at c = let p = within-arrays (goal.at.offset_bounds-u-machine_at c).After-place_of-place in search rules
+offset_bounds-u-machine_at c = let p = within_arrays (goal.at.offset_bounds-u-machine_at c).After-place_of-place in search rules
 
 pub bounds-u-machine_at : goal.bounds-u-machine_at
-bounds-u-machine_at c = let p = within-arrays (goal.at.bounds-u-machine_at c).After-place_of-place in search rules
+bounds-u-machine_at c = let p = within_arrays (goal.at.bounds-u-machine_at c).After-place_of-place in search rules
 
 pub offset_bounds-u-job_at : goal.offset_bounds-u-job_at
-offset_bounds-u-job_at c = let p = within-arrays (goal.at.offset_bounds-u-job_at c).After-place_of-place in search rules
+offset_bounds-u-job_at c = let p = within_arrays (goal.at.offset_bounds-u-job_at c).After-place_of-place in search rules
 
 pub bounds-u-job_at : goal.bounds-u-job_at
-bounds-u-job_at c = let p = within-arrays (goal.at.bounds-u-job_at c).After-place_of-place in search rules
+bounds-u-job_at c = let p = within_arrays (goal.at.bounds-u-job_at c).After-place_of-place in search rules
 
 pub bounds-u-cell_at : goal.bounds-u-cell_at
-bounds-u-cell_at c = let p = within-arrays (goal.at.bounds-u-cell_at c).After-place_of-place in search rules
+bounds-u-cell_at c = let p = within_arrays (goal.at.bounds-u-cell_at c).After-place_of-place in search rules
 
 pub bounds-u-told_at : goal.bounds-u-told_at
-bounds-u-told_at c = let p = within-arrays (goal.at.bounds-u-told_at c).After-place_of-place in search rules
+bounds-u-told_at c = let p = within_arrays (goal.at.bounds-u-told_at c).After-place_of-place in search rules
 
 pub offset_bounds-u-peer_at : goal.offset_bounds-u-peer_at
-offset_bounds-u-peer_at c = let p = within-arrays (goal.at.offset_bounds-u-peer_at c).After-place_of-place in search rules
+offset_bounds-u-peer_at c = let p = within_arrays (goal.at.offset_bounds-u-peer_at c).After-place_of-place in search rules
 
 pub bounds-u-peer_at : goal.bounds-u-peer_at
-bounds-u-peer_at c = let p = within-arrays (goal.at.bounds-u-peer_at c).After-place_of-place in search rules
+bounds-u-peer_at c = let p = within_arrays (goal.at.bounds-u-peer_at c).After-place_of-place in search rules
 
 pub bounds-numbers-i : goal.bounds-numbers-i
-bounds-numbers-i c = let h = place-left (goal.at.bounds-numbers-i c).In-loop-k in search rules
+bounds-numbers-i c = let h = place_left (goal.at.bounds-numbers-i c).In-loop-k in search rules
 
 pub loop-k-smaller-then-ask-ge-DIE : goal.loop-k-smaller-then-ask-ge-DIE
 loop-k-smaller-then-ask-ge-DIE c = fewer (goal.at.loop-k-smaller-then-ask-ge-DIE c).After-number_of-number
 
 pub offset_bounds-u-job_at-else-ask-ge-DIE : goal.offset_bounds-u-job_at-else-ask-ge-DIE
-offset_bounds-u-job_at-else-ask-ge-DIE c = let p = within-arrays (goal.at.offset_bounds-u-job_at-else-ask-ge-DIE c).After-place_of-place in search rules
+offset_bounds-u-job_at-else-ask-ge-DIE c = let p = within_arrays (goal.at.offset_bounds-u-job_at-else-ask-ge-DIE c).After-place_of-place in search rules
 
 pub bounds-u-job_at-else-ask-ge-DIE : goal.bounds-u-job_at-else-ask-ge-DIE
-bounds-u-job_at-else-ask-ge-DIE c = let p = within-arrays (goal.at.bounds-u-job_at-else-ask-ge-DIE c).After-place_of-place in search rules
+bounds-u-job_at-else-ask-ge-DIE c = let p = within_arrays (goal.at.bounds-u-job_at-else-ask-ge-DIE c).After-place_of-place in search rules
 
 pub offset_bounds-u-machine_at-else-ask-ge-DIE : goal.offset_bounds-u-machine_at-else-ask-ge-DIE
-offset_bounds-u-machine_at-else-ask-ge-DIE c = let p = within-arrays (goal.at.offset_bounds-u-machine_at-else-ask-ge-DIE c).After-place_of-place in search rules
+offset_bounds-u-machine_at-else-ask-ge-DIE c = let p = within_arrays (goal.at.offset_bounds-u-machine_at-else-ask-ge-DIE c).After-place_of-place in search rules
 
 pub bounds-u-machine_at-else-ask-ge-DIE : goal.bounds-u-machine_at-else-ask-ge-DIE
-bounds-u-machine_at-else-ask-ge-DIE c = let p = within-arrays (goal.at.bounds-u-machine_at-else-ask-ge-DIE c).After-place_of-place in search rules
+bounds-u-machine_at-else-ask-ge-DIE c = let p = within_arrays (goal.at.bounds-u-machine_at-else-ask-ge-DIE c).After-place_of-place in search rules
 
 pub bounds-u-cell_at-else-ask-ge-DIE : goal.bounds-u-cell_at-else-ask-ge-DIE
-bounds-u-cell_at-else-ask-ge-DIE c = let p = within-arrays (goal.at.bounds-u-cell_at-else-ask-ge-DIE c).After-place_of-place in search rules
+bounds-u-cell_at-else-ask-ge-DIE c = let p = within_arrays (goal.at.bounds-u-cell_at-else-ask-ge-DIE c).After-place_of-place in search rules
 
 pub offset_bounds-u-slot-in-loop-slot-else-ask-ge-DIE : goal.offset_bounds-u-slot-in-loop-slot-else-ask-ge-DIE
 offset_bounds-u-slot-in-loop-slot-else-ask-ge-DIE c = let h = moves (goal.at.offset_bounds-u-slot-in-loop-slot-else-ask-ge-DIE c).In-loop-slot-else-ask-ge-DIE in search rules
@@ -441,7 +441,7 @@ pub bounds-u-slot-in-loop-slot-else-ask-ge-DIE-2 : goal.bounds-u-slot-in-loop-sl
 bounds-u-slot-in-loop-slot-else-ask-ge-DIE-2 c = let h = moves (goal.at.bounds-u-slot-in-loop-slot-else-ask-ge-DIE-2 c).In-loop-slot-else-ask-ge-DIE in search rules
 
 pub counted-requires : goal.counted-requires
-counted-requires c = kept-room (goal.at.counted-requires c).After-kept-keep
+counted-requires c = kept_room (goal.at.counted-requires c).After-kept-keep
 
 pub loop-k-smaller-then-keep-lt128 : goal.loop-k-smaller-then-keep-lt128
 loop-k-smaller-then-keep-lt128 c = fewer ((goal.at.loop-k-smaller-then-keep-lt128 c).After-number_of-number)

@@ -34,10 +34,10 @@ pub identifier_at-requires : goal.identifier_at-requires
 identifier_at-requires c = identifier_whole _ _ (below (goal.at.identifier_at-requires c).In-loop-i)
 
 -- the part that is handed over is the entry's identifier
-identifier-is : (c : After-identifier_at)
+identifier_is : (c : After-identifier_at)
     → c.identifier_at.result.now ≡ identifier_of c.args.book.now
     c.loop-i.i
-identifier-is c = c.identifier_at.ensures ∙ identifier_below _ _ (below (goal.at.After-identifier_at c).In-loop-i)
+identifier_is c = c.identifier_at.ensures ∙ identifier_below _ _ (below (goal.at.After-identifier_at c).In-loop-i)
 
 pub put_entry-end-requires : goal.put_entry-end-requires
 unfolding job_at
@@ -46,7 +46,7 @@ put_entry-end-requires c =
     let l = c.loop-i in
     let z = passed_sized a.t (long a.t _ c.well_formed.1.0) c.requires.t_value in
     let n = counts.entry_count_most a.book.now in
-    let i = ap length (identifier-is (goal.at.put_entry-end-requires c).After-identifier_at) in record {
+    let i = ap length (identifier_is (goal.at.put_entry-end-requires c).After-identifier_at) in record {
       identifier_in_bounds = omega (arith, i, identifier_most a.book.now l.i, l.invariant.2.end, lines_most a.book.now a.t z c.requires.t_value l.i (omega arith));
       replica_bound = replica_small a.book.now a.t z c.requires.t_value l.i (omega arith);
     }
@@ -62,7 +62,7 @@ loop-i-preserved c =
       omega arith,
       w.auto.out ∙ l.invariant.1,
       joined_more (line_of a.book.now a.t) l.invariant.2 (line_written a.book.now a.t l.i c.identifier_at.result.now
-          (identifier-is (goal.at.loop-i-preserved c).After-identifier_at) w.ensures)
+          (identifier_is (goal.at.loop-i-preserved c).After-identifier_at) w.ensures)
           (omega (arith, c.requires.entries_most_in_bounds, lines_most a.book.now a.t z c.requires.t_value (l.i + 1) (omega arith))),
     )
 

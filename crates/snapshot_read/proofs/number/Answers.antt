@@ -8,14 +8,14 @@ use lib.Ieee.Bits.{nan_bits_above}
 use Rattle.book_term.proofs.Nans.{nan_of}
 use Rattle.snapshot_read.proofs.number.Goals as goal
 
-zero-over-zero : div binary64 (of_bits binary64 0) (of_bits binary64 0) ≡ nan
+zero_over_zero : div binary64 (of_bits binary64 0) (of_bits binary64 0) ≡ nan
 unfolding div of_bits
-zero-over-zero = refl
+zero_over_zero = refl
 
 pub returns-then-bits-gt9218868437227405312 : goal.returns-then-bits-gt9218868437227405312
 returns-then-bits-gt9218868437227405312 c =
     let b = c.args.bits in
-    zero-over-zero ∙ sym (nan_of b (nan_bits_above binary64 b ∙ lt-ltb _ _ c.if-bits-gt9218868437227405312.true))
+    zero_over_zero ∙ sym (nan_of b (nan_bits_above binary64 b ∙ lt-ltb _ _ c.if-bits-gt9218868437227405312.true))
 
 pub float_from_bits-result : goal.float_from_bits-result
 float_from_bits-result c =
