@@ -14,22 +14,6 @@ fn complain(rt: &impl Eprint, name: &str, why: &str) {
     let _ = eprintln!(rt; "{name}: {why}");
 }
 
-// Reads until buf is full, the file ends or a read fails, and answers how many bytes it put at the start of buf.
-fn read_full(file: &mut impl Read, buf: &mut [u8]) -> usize
-    ensures in_bounds { result ≤ length buf.new }
-    ensures prefix { result ≡ length (take result buf.new) }
-{
-    let mut done = 0;
-    while done < buf.len() {
-        let n = file.read(&mut buf[done..]).unwrap_or(0);
-        if n == 0 {
-            break;
-        }
-        done += n;
-    }
-    done
-}
-
 // Whether a read finds that the file has ended, and neither a byte more nor an error.
 fn ended(file: &mut impl Read) -> bool {
     let mut next = [0u8; 1];
@@ -46,7 +30,7 @@ fn load(rt: &(impl Files + Eprint), name: &str, buf: &mut [u8]) -> usize
         complain(rt, name, "cannot be opened, counts as empty");
         return 0;
     };
-    let n = read_full(&mut file, buf);
+    let n = reading::read_full(&mut file, buf);
     if ended(&mut file) {
         return n;
     }

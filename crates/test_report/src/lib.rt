@@ -4,7 +4,7 @@
 ghost use Rattle.std.specs.Prelude.{◌≡◌, ◌≤◌, length, take};
 
 use std::fs::File;
-use std::io::{Read, Write};
+use std::io::Write;
 use std::rt::Files;
 use std::{io, str};
 
@@ -36,22 +36,6 @@ fn open<R: Files + Eprint>(rt: &R, name: &[u8]) -> Option<R::File> {
     }
 }
 
-// Reads until buf is full, the file ends or a read fails, and answers how many bytes it put at the start of buf.
-fn read_full(file: &mut impl Read, buf: &mut [u8]) -> usize
-    ensures in_bounds { result ≤ length buf.new }
-    ensures prefix { result ≡ length (take result buf.new) }
-{
-    let mut done = 0;
-    while done < buf.len() {
-        let n = file.read(&mut buf[done..]).unwrap_or(0);
-        if n == 0 {
-            break;
-        }
-        done += n;
-    }
-    done
-}
-
 // Reads the file into buf, and answers how many bytes it has; 0, with the reason on standard error, where it cannot be opened.
 pub fn load(rt: &(impl Files + Eprint), name: &[u8], buf: &mut [u8]) -> usize
     ensures in_bounds { result ≤ length buf.new }
@@ -60,7 +44,7 @@ pub fn load(rt: &(impl Files + Eprint), name: &[u8], buf: &mut [u8]) -> usize
     let Some(mut file) = open(rt, name) else {
         return 0;
     };
-    read_full(&mut file, buf)
+    reading::read_full(&mut file, buf)
 }
 
 // A line with a count.

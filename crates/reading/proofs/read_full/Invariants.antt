@@ -1,6 +1,6 @@
--- `test_report::read_full` ends, since each turn leaves less to fill.
+-- `reading::read_full` ends, since each turn leaves less to fill.
 use Rattle.std.proofs.Common.{length, ◌-◌, ◌≡◌, ◌≤◌, ◌^◌, ◌<◌}
-use Rattle.test_report.proofs.read_full.Given as goal
+use Rattle.reading.proofs.read_full.Given as goal
 
 abbrev pub invariant-loop-done : goal.invariant-loop-done
 invariant-loop-done g l = (length l.buf ≡ length l.initial.buf) × (l.done ≤ length l.buf) × (length l.buf < 2 ^ 64)
