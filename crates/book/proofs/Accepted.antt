@@ -1,5 +1,7 @@
 -- What an accepted book gives, for the crates above, which do not look into the reader: its sizes, identifiers that pass and are all different,
 -- and terms in range. Assumes nothing.
+use Rattle.std.proofs.Common.{Option, None, Some, Result, Ok, Err, IsErr, Bor}
+use Rattle.pricer.specs.declared.Bond.{Bond}
 use mathlib.Core.Path.{◌≡◌, refl, sym, ap, ◌∙◌}
 use mathlib.Core.Bool.{Bool, true, false, not, cond, ◌&&◌, true≢false}
 use mathlib.Core.Logic.{◌≢◌, ⊎_elim}
@@ -15,15 +17,14 @@ use Rattle.endian.specs.Endian.{le16}
 use Rattle.lists.proofs.Scans.{all_at}
 use Rattle.lists.proofs.Lowest.{lowest_none}
 use Rattle.isin.specs.Isin.{verdict_of}
+use Rattle.refusal.specs.declared.Refusal.{Refusal}
 use Rattle.pricer.specs.Range.{in_range}
 use Rattle.book_term.specs.Term.{term_of, term_number}
 use Rattle.book_term.proofs.Ranged.{read_in_range}
-use Rattle.book_term.specs.declared.Reading.{Reading}
-use Rattle.book_term.specs.declared.Reading.TheVariants.{Faulty, Valid}
 use Rattle.book.specs.Book.{raw_machine_count, raw_entry_count, sizes_in_range, identifier_at, term_at, repeated, fault_at, lowest_fault}
 use Rattle.book.specs.Book.{book_verdict}
 use Rattle.pricer.specs.Bonds.{no_bond}
-use Rattle.book.specs.Parts.{IsSize, size_at, machine_count_of, entry_count_of, identifier_of, identifier_number, bond_in, term_bond_at, bond_of}
+use Rattle.book.specs.Parts.{IsSize, size_at, machine_count_of, entry_count_of, identifier_of, identifier_number, part_of, bond_in, term_bond_at, bond_of}
 use Rattle.book.proofs.SameBytes.{same_itself}
 use Rattle.book.proofs.Faults.{other, lowest_is}
 
@@ -113,20 +114,20 @@ verdict_lowest s z w =
 pub record Entry (s : List ℕ) (n i : ℕ) : Type 0 where
   pub passes : verdict_of (identifier_at s i) ≡ 0
   pub new : (k : ℕ) → k < i → identifier_at s k ≢ identifier_at s i
-  pub read : term_of (term_at s n i) ≡ Valid (term_bond_at s n i)
+  pub read : term_of (term_at s n i) ≡ Some (term_bond_at s n i)
   pub in_range : in_range (term_bond_at s n i) ≡ true
 
 -- what reads to no fault is the bond of the entry
-pub valid : (r : Reading) → term_number r ≡ 0 → r ≡ Valid (bond_in r)
-valid Faulty e = absurd (no 6 e)
-valid (Valid b) e = refl
+pub valid : (r : Option Bond) → term_number r ≡ 0 → r ≡ Some (bond_in r)
+valid None e = absurd (no 6 e)
+valid (Some b) e = refl
 
 entry_of : (s : List ℕ) (n i : ℕ) → fault_at s n i ≡ 0 → Entry s n i
 unfolding fault_at repeated term_bond_at
 entry_of s n i e =
     let differs : ℕ → Bool = other s (identifier_at s i) in
     let p = past_identifier (verdict_of (identifier_at s i)) (not (all differs i)) _ e in
-    let r : term_of (term_at s n i) ≡ Valid (bond_in (term_of (term_at s n i))) = valid (term_of (term_at s n i)) p.2 in
+    let r : term_of (term_at s n i) ≡ Some (bond_in (term_of (term_at s n i))) = valid (term_of (term_at s n i)) p.2 in
     record {
       passes = p.0;
       new = λ k h q.
@@ -185,6 +186,11 @@ pub size_small : (s : List ℕ) (at : ℕ) → book_verdict s ≡ 0 → IsSize a
 size_small s at e h =
     let z = (accepted s e).sizes_in_range in
     ⊎_elim (λ q. rw q (omega (arith, z.machine_count_most))) (λ q. rw q (omega (arith, z.entry_count_most))) h
+
+-- a refusal hands back no part
+pub no_part : (r : Result (Bor (List ℕ)) Refusal) → IsErr r → part_of r ≡ []
+no_part (Ok p) h = absurd (true≢false (sym h))
+no_part (Err e) h = refl
 
 -- the parts of an entry below the count, and of one that is not
 module _ (s : List ℕ) (i : ℕ) where

@@ -1,11 +1,11 @@
 -- What an accepted book hands out: its sizes, the identifier of an entry as that part of the book, and the bond of an entry. Definitions only.
-use Rattle.std.specs.Prelude.{ℕ, ◌≡◌, ◌⊎◌, not, cond, List, [], ltb, eqb}
+use Rattle.std.specs.Prelude.{ℕ, ◌≡◌, ◌⊎◌, not, cond, List, [], ltb, eqb, Option, unwrap_or, Result, Ok, Err}
+use Rattle.std.specs.Borrow.{Bor}
+use Rattle.refusal.specs.declared.Refusal.{Refusal}
 use Rattle.pricer.specs.Bonds.{no_bond}
 use Rattle.pricer.specs.declared.Bond.{Bond}
 use Rattle.endian.specs.Endian.{le16}
 use Rattle.book_term.specs.Term.{term_of}
-use Rattle.book_term.specs.declared.Reading.{Reading}
-use Rattle.book_term.specs.declared.Reading.TheVariants.{Faulty, Valid}
 use Rattle.book.specs.Book.{identifier_at, term_at, book_verdict}
 
 -- the two sizes stand at bytes 0 and 2
@@ -34,10 +34,14 @@ identifier_number s i =
     cond (not (eqb (book_verdict s) 0)) (book_verdict s)
     (cond (ltb i (entry_count_of s)) 0 11)
 
+-- the part that a result hands back: the empty part beside a refusal
+abbrev pub part_of : Result (Bor (List ℕ)) Refusal → List ℕ
+part_of (Ok part) = part.now
+part_of (Err r) = []
+
 -- the bond that was read
-abbrev pub bond_in : Reading → Bond
-bond_in Faulty = no_bond
-bond_in (Valid b) = b
+abbrev pub bond_in : Option Bond → Bond
+bond_in r = unwrap_or r no_bond
 
 -- "Once read, a bond's terms are one of two cases": the bond of entry i of n
 unfoldable pub term_bond_at : List ℕ → ℕ → ℕ → Bond

@@ -1,4 +1,6 @@
 -- The number of an entry, and of a book: as it was where it was not 7, and where the spare bytes are 0. Assumes nothing.
+use Rattle.std.proofs.Common.{Option, None, Some}
+use Rattle.pricer.specs.declared.Bond.{Bond}
 use mathlib.Core.Path.{◌≡◌, refl, ap}
 use mathlib.Core.Logic.{◌≢◌}
 use mathlib.Core.Bool.{Bool, true, false, not, cond}
@@ -11,8 +13,6 @@ use Rattle.lists.proofs.Cases.{by_bool}
 use Rattle.lists.proofs.Lowest.{lowest_agree, lowest_same}
 use Rattle.isin.specs.Isin.{verdict_of}
 use Rattle.book_term.specs.Term.{term_of, term_number}
-use Rattle.book_term.specs.declared.Reading.{Reading}
-use Rattle.book_term.specs.declared.Reading.TheVariants.{Faulty, Valid}
 use Rattle.pricer.specs.Range.{lowest_yield}
 use Rattle.book.specs.Book.{raw_machine_count, raw_entry_count, sizes_in_range, identifier_at, term_at, repeated}
 use Rattle.book.specs.Book.{fault_at, lowest_faulty, lowest_fault, book_verdict}
@@ -21,9 +21,9 @@ use Rattle.book_before.specs.Before.{term_before, fault_before, lowest_faulty_be
 use Rattle.book_before.specs.Spare.{SparesClear}
 use Rattle.book_before.proofs.Terms.{Keeps, term_kept, term_same}
 
-number_kept : (x y : Reading) → Keeps x y → term_number x ≢ 7 → term_number y ≡ term_number x
-number_kept Faulty y h d = absurd (d refl)
-number_kept (Valid b) y h d = ap term_number (h b refl)
+number_kept : (x y : Option Bond) → Keeps x y → term_number x ≢ 7 → term_number y ≡ term_number x
+number_kept None y h d = absurd (d refl)
+number_kept (Some b) y h d = ap term_number (h b refl)
 
 -- the tests of 1, 2 and 3, and a number that comes after them
 abbrev short : List ℕ → Bool

@@ -1,4 +1,5 @@
 -- A bond that is paid twice a year has the price bits of the formula as it was; so has every bond of the reader as it was. Assumes nothing.
+use Rattle.std.proofs.Common.{Option, None, Some}
 use mathlib.Core.Path.{◌≡◌, refl}
 use mathlib.Core.List.{List}
 use Prim.Native.Nat.{ℕ}
@@ -12,8 +13,6 @@ use Rattle.pricer.specs.Bonds.{no_bond}
 use Rattle.pricer.specs.declared.Bond.{Bond}
 use Rattle.pricer.specs.declared.Terms.{Terms}
 use Rattle.pricer.specs.declared.Terms.TheVariants.{Zero, Fixed}
-use Rattle.book_term.specs.declared.Reading.{Reading}
-use Rattle.book_term.specs.declared.Reading.TheVariants.{Faulty, Valid}
 use Rattle.book.specs.Book.{term_at}
 use Rattle.book.specs.Parts.{bond_in}
 use Rattle.book_before.specs.Formula.{two, price_by_before, bits_before}
@@ -42,25 +41,25 @@ none_same = refl
 
 -- ---- the bonds of the reader
 
-abbrev SameIn : Reading → Type 0
+abbrev SameIn : Option Bond → Type 0
 SameIn r = Same (bond_in r)
 
 module _ (lo : Float) where
   checked_bits : (b : Bond) → b.payments ≡ 2 → SameIn (checked_before lo b)
   unfolding checked_before
-  checked_bits b e = cond_elim SameIn (in_range_before lo b) (Valid b) Faulty (bits_same b e) none_same
+  checked_bits b e = cond_elim SameIn (in_range_before lo b) (Some b) None (bits_same b e) none_same
 
   from_bits : (k : ℕ) (b : Bond) (c y : ℕ) → b.payments ≡ 2 → SameIn (term_from_before lo k b c y)
   unfolding term_from_before
   from_bits k b c y e =
-      cond_elim SameIn (eqb k 1) _ _ (cond_elim SameIn (eqb c 0) _ Faulty (checked_bits _ e) none_same)
-      (cond_elim SameIn (eqb k 2) _ Faulty (checked_bits _ e) none_same)
+      cond_elim SameIn (eqb k 1) _ _ (cond_elim SameIn (eqb c 0) _ None (checked_bits _ e) none_same)
+      (cond_elim SameIn (eqb k 2) _ None (checked_bits _ e) none_same)
 
   term_bits_lem : (s : List ℕ) → SameIn (term_before lo s)
   unfolding term_before
   term_bits_lem s =
-      cond_elim SameIn (eqb (length s) 19) _ Faulty
-      (cond_elim SameIn (eqb (get_or s 2 0) 0) _ Faulty (from_bits (get_or s 0 0) (bare_before s) (le64 s 3) (le64 s 11) refl) none_same) none_same
+      cond_elim SameIn (eqb (length s) 19) _ None
+      (cond_elim SameIn (eqb (get_or s 2 0) 0) _ None (from_bits (get_or s 0 0) (bare_before s) (le64 s 3) (le64 s 11) refl) none_same) none_same
 
   pub bits_before_lem : (s : List ℕ) (i : ℕ) → Same (bond_before lo s i)
   unfolding bond_before

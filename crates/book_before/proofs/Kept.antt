@@ -1,4 +1,5 @@
 -- A book that was accepted is accepted, with the same bonds and the same prices; the claim is in specs/Kept.antt. Assumes nothing.
+use Rattle.std.proofs.Common.{Some}
 use mathlib.Core.Path.{◌≡◌, sym, ap, ◌∙◌}
 use mathlib.Core.Bool.{true}
 use mathlib.Core.List.{List}
@@ -12,7 +13,6 @@ use Rattle.lists.proofs.Lowest.{lowest_none}
 use Rattle.isin.specs.Isin.{verdict_of}
 use Rattle.pricer.specs.Price.{price_bits}
 use Rattle.pricer.specs.Range.{lowest_yield}
-use Rattle.book_term.specs.declared.Reading.TheVariants.{Valid}
 use Rattle.book.specs.Book.{raw_machine_count, raw_entry_count, sizes_in_range, identifier_at, term_at, repeated, book_verdict}
 use Rattle.book.specs.Parts.{entry_count_of, bond_in, term_bond_at, bond_of}
 use Rattle.book.proofs.Accepted.{no, past_sizes, past_identifier, valid, accepted_size}
@@ -33,7 +33,7 @@ module _ (lo : Float) (up : (y : Float) → le lo y ≡ true → le lowest_yield
       lowest_none (fault_before lo s (raw_entry_count s)) (raw_entry_count s) p.3
 
   -- its term was read as a bond
-  read : (s : List ℕ) (n i : ℕ) → fault_before lo s n i ≡ 0 → term_before lo (term_at s n i) ≡ Valid (bond_in (term_before lo (term_at s n i)))
+  read : (s : List ℕ) (n i : ℕ) → fault_before lo s n i ≡ 0 → term_before lo (term_at s n i) ≡ Some (bond_in (term_before lo (term_at s n i)))
   unfolding fault_before
   read s n i e = valid (term_before lo (term_at s n i)) (past_identifier (verdict_of (identifier_at s i)) (repeated s i) _ e).2
 

@@ -1,5 +1,6 @@
 -- What was in range is in range, so a term that was read as a bond is read as the same bond; and a term whose spare byte is 0 is read as it was.
 -- Assumes nothing.
+use Rattle.std.proofs.Common.{Option, None, Some}
 use mathlib.Core.Path.{◌≡◌, refl, sym, ap, ◌∙◌}
 use mathlib.Core.Bool.{Bool, true, false, cond, ◌&&◌, ◌||◌, true≢false}
 use mathlib.Core.List.{List}
@@ -19,8 +20,6 @@ use Rattle.pricer.specs.declared.Bond.{Bond}
 use Rattle.pricer.specs.declared.Terms.{Terms}
 use Rattle.pricer.specs.declared.Terms.TheVariants.{Zero, Fixed}
 use Rattle.book_term.specs.Term.{float_of, checked, term_from, term_of, term_number}
-use Rattle.book_term.specs.declared.Reading.{Reading}
-use Rattle.book_term.specs.declared.Reading.TheVariants.{Faulty, Valid}
 use Rattle.book.proofs.Accepted.{no}
 use Rattle.book_before.specs.Before.{yield_before, terms_before, in_range_before, checked_before, term_from_before, bare_before, term_before}
 
@@ -46,13 +45,13 @@ above (fin true m e) h =
 -- ---- readings
 
 -- a bond of the first reading is that of the second
-abbrev pub Keeps : Reading → Reading → Type 0
-Keeps x y = (b : Bond) → x ≡ Valid b → y ≡ Valid b
+abbrev pub Keeps : Option Bond → Option Bond → Type 0
+Keeps x y = (b : Bond) → x ≡ Some b → y ≡ Some b
 
-none : (y : Reading) → Keeps Faulty y
+none : (y : Option Bond) → Keeps None y
 none y b e = absurd (no 6 (ap term_number e))
 
-either : (t : Bool) (x y u v : Reading) → Keeps x u → Keeps y v → Keeps (cond t x y) (cond t u v)
+either : (t : Bool) (x y u v : Option Bond) → Keeps x u → Keeps y v → Keeps (cond t x y) (cond t u v)
 either true x y u v a b = a
 either false x y u v a b = b
 
@@ -85,8 +84,8 @@ module _ (lo : Float) (up : (y : Float) → le lo y ≡ true → le lowest_yield
   unfolding term_from_before term_from
   from_kept k b c y p =
       either (eqb k 1) _ _ _ _
-      (either (eqb c 0) _ _ _ _ (checked_kept _ p) (none Faulty))
-      (either (eqb k 2) _ _ _ _ (checked_kept _ p) (none Faulty))
+      (either (eqb c 0) _ _ _ _ (checked_kept _ p) (none None))
+      (either (eqb k 2) _ _ _ _ (checked_kept _ p) (none None))
 
   pub term_kept : (s : List ℕ) → Keeps (term_before lo s) (term_of s)
   unfolding term_before term_of
@@ -95,7 +94,7 @@ module _ (lo : Float) (up : (y : Float) → le lo y ≡ true → le lowest_yield
       (by_bool (eqb (get_or s 2 0) 0)
       (λ e. rw e (from_kept (get_or s 0 0) (bare_before s) (le64 s 3) (le64 s 11) refl))
       (λ e. rw e (none _)))
-      (none Faulty)
+      (none None)
 
 -- ---- with today's lowest yield
 
@@ -107,7 +106,7 @@ checked_same : (b : Bond) → b.payments ≡ 2 → checked b ≡ checked_before 
 unfolding checked checked_before in_range in_range_before
 checked_same b e =
     let p = periods_in_range b.periods in
-    ap (λ (x : Bool). cond x (Valid b) Faulty)
+    ap (λ (x : Bool). cond x (Some b) None)
     (ap (λ (k : ℕ). p && payments_in_range k && terms_in_range b.terms) e
     ∙ ap (λ (x : Bool). x && terms_in_range b.terms) (and_true p)
     ∙ ap (λ (x : Bool). p && x) (terms_same b.terms))

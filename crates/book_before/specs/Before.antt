@@ -3,7 +3,7 @@
 -- one after it. What the two requests changed is `yield_before`, `bare_before` and the test of the spare byte in `term_before`. The other definitions
 -- repeat, over these, those of pricer's Range, book_term's Term, and book's Book and Parts. What the requests left alone is cited as it is today: the
 -- other ranges, how bytes are read, identifiers, sizes and parts of the book. Definitions only.
-use Rattle.std.specs.Prelude.{ℕ, ◌+◌, ◌*◌, Bool, not, cond, ◌&&◌, List, ltb, eqb, length, get_or, Float}
+use Rattle.std.specs.Prelude.{ℕ, ◌+◌, ◌*◌, Bool, not, cond, ◌&&◌, List, ltb, eqb, length, get_or, Float, Option, None, Some}
 use Rattle.lists.specs.Scan.{least}
 use Rattle.endian.specs.Endian.{le64}
 use Rattle.isin.specs.Isin.{verdict_of}
@@ -14,8 +14,6 @@ use Rattle.pricer.specs.declared.Bond.{Bond}
 use Rattle.pricer.specs.declared.Terms.{Terms}
 use Rattle.pricer.specs.declared.Terms.TheVariants.{Zero, Fixed}
 use Rattle.book_term.specs.Term.{float_of, term_number}
-use Rattle.book_term.specs.declared.Reading.{Reading}
-use Rattle.book_term.specs.declared.Reading.TheVariants.{Faulty, Valid}
 use Rattle.book.specs.Book.{raw_machine_count, raw_entry_count, sizes_in_range, identifier_at, term_at, repeated}
 use Rattle.book.specs.Parts.{bond_in}
 
@@ -37,26 +35,26 @@ unfoldable pub in_range_before : Float → Bond → Bool
 in_range_before lo b = periods_in_range b.periods && terms_before lo b.terms
 
 -- as `checked`
-unfoldable pub checked_before : Float → Bond → Reading
-checked_before lo b = cond (in_range_before lo b) (Valid b) Faulty
+unfoldable pub checked_before : Float → Bond → Option Bond
+checked_before lo b = cond (in_range_before lo b) (Some b) None
 
 -- as `term_from`
-unfoldable pub term_from_before : Float → ℕ → Bond → ℕ → ℕ → Reading
+unfoldable pub term_from_before : Float → ℕ → Bond → ℕ → ℕ → Option Bond
 term_from_before lo kind b coupon ytm =
     cond (eqb kind 1)
-    (cond (eqb coupon 0) (checked_before lo (with_terms b (Zero (float_of ytm)))) Faulty)
-    (cond (eqb kind 2) (checked_before lo (with_terms b (Fixed (float_of coupon) (float_of ytm)))) Faulty)
+    (cond (eqb coupon 0) (checked_before lo (with_terms b (Zero (float_of ytm)))) None)
+    (cond (eqb kind 2) (checked_before lo (with_terms b (Fixed (float_of coupon) (float_of ytm)))) None)
 
 -- as `bare_bond`: a bond had periods and terms, and was paid twice a year; it stands here as one of two payments
 abbrev pub bare_before : List ℕ → Bond
 bare_before s = record { periods = get_or s 1 0; payments = 2; terms = no_bond.terms }
 
 -- as `term_of`: what 19 bytes were read as, with "a spare byte 0"
-unfoldable pub term_before : Float → List ℕ → Reading
+unfoldable pub term_before : Float → List ℕ → Option Bond
 term_before lo s =
     cond (eqb (length s) 19)
-    (cond (eqb (get_or s 2 0) 0) (term_from_before lo (get_or s 0 0) (bare_before s) (le64 s 3) (le64 s 11)) Faulty)
-    Faulty
+    (cond (eqb (get_or s 2 0) 0) (term_from_before lo (get_or s 0 0) (bare_before s) (le64 s 3) (le64 s 11)) None)
+    None
 
 -- as `fault_at`
 unfoldable pub fault_before : Float → List ℕ → ℕ → ℕ → ℕ

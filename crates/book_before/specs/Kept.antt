@@ -1,12 +1,11 @@
 -- Request 2.1: "Books accepted before are accepted with the same prices." The claim is `BooksKept`, of the reader with a lowest yield: with
 -- `first_lowest` it is of the books accepted before 2.1, and with `lowest_yield` of those accepted before 2.3. Its proofs are in proofs/Kept.antt.
 -- Definitions only.
-use Rattle.std.specs.Prelude.{ℕ, ◌≡◌, ◌≢◌, true, List, Float}
+use Rattle.std.specs.Prelude.{ℕ, ◌≡◌, ◌≢◌, true, List, Float, Some}
 use Rattle.pricer.specs.Price.{price_bits}
 use Rattle.pricer.specs.Range.{in_range}
 use Rattle.pricer.specs.declared.Bond.{Bond}
 use Rattle.book_term.specs.Term.{term_of}
-use Rattle.book_term.specs.declared.Reading.TheVariants.{Valid}
 use Rattle.book.specs.Book.{book_verdict}
 use Rattle.book.specs.Parts.{entry_count_of, bond_of}
 use Rattle.book_before.specs.Formula.{bits_before}
@@ -27,7 +26,7 @@ pub record BooksKept (lo : Float) : Type 0 where
   -- a bond that was in range is in range, paid twice a year as every bond was: check 9 of a table asks no more of it
   pub range : (b : Bond) → b.payments ≡ 2 → in_range_before lo b ≡ true → in_range b ≡ true
   -- a term that was read as a bond is read as the same bond
-  pub term : (s : List ℕ) (b : Bond) → term_before lo s ≡ Valid b → term_of s ≡ Valid b
+  pub term : (s : List ℕ) (b : Bond) → term_before lo s ≡ Some b → term_of s ≡ Some b
   -- "Books accepted before are accepted with the same prices"
   pub accepted : (s : List ℕ) → verdict_before lo s ≡ 0 → StillAccepted lo s
   -- and only a book refused 7 may get another number

@@ -1,5 +1,6 @@
 -- A term that is read has a bond in range, and one that has not 19 bytes is not read: the laws by which crates above use the reader.
 -- Assumes nothing.
+use Rattle.std.proofs.Common.{Option, None, Some}
 use mathlib.Core.Path.{◌≡◌, subst}
 use mathlib.Core.Bool.{true}
 use mathlib.Core.List.{List}
@@ -11,14 +12,12 @@ use Rattle.lists.proofs.Cases.{by_bool, cond_elim}
 use Rattle.endian.specs.Endian.{le64}
 use Rattle.pricer.specs.Range.{in_range}
 use Rattle.pricer.specs.declared.Bond.{Bond}
-use Rattle.book_term.specs.declared.Reading.{Reading}
-use Rattle.book_term.specs.declared.Reading.TheVariants.{Faulty, Valid}
 use Rattle.book_term.specs.Term.{checked, term_from, bare_bond, term_of, term_number}
 
 -- what is read, if anything, is in range
-abbrev Fine : Reading → Type 0
-Fine Faulty = Unit {0}
-Fine (Valid b) = in_range b ≡ true
+abbrev Fine : Option Bond → Type 0
+Fine None = Unit {0}
+Fine (Some b) = in_range b ≡ true
 
 checked_fine : (b : Bond) → Fine (checked b)
 unfolding checked
@@ -27,13 +26,13 @@ checked_fine b = by_bool (in_range b) (λ e. rw e e) (λ e. rw e tt)
 from_fine : (k : ℕ) (b : Bond) (c y : ℕ) → Fine (term_from k b c y)
 unfolding term_from
 from_fine k b c y =
-    cond_elim Fine (eqb k 1) _ _ (cond_elim Fine (eqb c 0) _ Faulty (checked_fine _) tt) (cond_elim Fine (eqb k 2) _ Faulty (checked_fine _) tt)
+    cond_elim Fine (eqb k 1) _ _ (cond_elim Fine (eqb c 0) _ None (checked_fine _) tt) (cond_elim Fine (eqb k 2) _ None (checked_fine _) tt)
 
 term_fine : (s : List ℕ) → Fine (term_of s)
 unfolding term_of
-term_fine s = cond_elim Fine (eqb (length s) 19) _ Faulty (from_fine (get_or s 0 0) (bare_bond s) (le64 s 3) (le64 s 11)) tt
+term_fine s = cond_elim Fine (eqb (length s) 19) _ None (from_fine (get_or s 0 0) (bare_bond s) (le64 s 3) (le64 s 11)) tt
 
-pub read_in_range : (s : List ℕ) (b : Bond) → term_of s ≡ Valid b → in_range b ≡ true
+pub read_in_range : (s : List ℕ) (b : Bond) → term_of s ≡ Some b → in_range b ≡ true
 read_in_range s b e = subst Fine e (term_fine s)
 
 pub not_nineteen : (s : List ℕ) → (length s ≡ 19 → ⊥) → term_number (term_of s) ≡ 7

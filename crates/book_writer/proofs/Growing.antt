@@ -1,4 +1,4 @@
--- The buffer that the code leaves is the grown book and what followed; and the two ends of `add`. Assumes nothing.
+-- The buffer that the code leaves is the grown book and what followed. Assumes nothing.
 use Prim.Native.Nat.{ℕ, ◌+◌, ◌*◌, ◌≤◌, ◌<◌}
 use mathlib.Core.Path.{◌≡◌, sym, ap, ◌∙◌}
 use mathlib.Core.List.{List, ◌∷◌, ◌++◌, append_assoc}
@@ -12,7 +12,7 @@ use Rattle.book.specs.Parts.{machine_count_of, entry_count_of}
 use Rattle.book_writer.specs.Writer.{head, laid, identifiers, terms, grown, onto, add_number, add_bytes}
 use Rattle.book.proofs.Accepted.{whole_length, count_byte}
 use Rattle.book_writer.proofs.Laid.{laid_head, own_laid, own_long}
-use Rattle.book_writer.proofs.Answers.{Adds, twelve, nineteen, number_adds, adds_size, added_accepted, added_refused}
+use Rattle.book_writer.proofs.Answers.{Adds, twelve, nineteen, number_adds, adds_size, added_accepted}
 
 -- ---- the two parts of a book around the new identifier
 
@@ -76,17 +76,11 @@ module _ (b : List ℕ) (count : ℕ) (id term : List ℕ) (a : Adds b count id 
       let i = twelve_nineteen in
       (omega arith, omega (arith, a.space, i.0, i.1), omega (arith, a.few))
 
--- ---- the two ends of `add`
+-- ---- the end of `add`
 
-module _ (b : List ℕ) (count : ℕ) (id term : List ℕ) (r : ℕ) (e : r ≡ add_number b count id term) where
-  pub refused : (r ≡ 0 → ⊥) → (r ≡ add_number b count id term) × (b ≡ add_bytes b count id term)
-  refused h = (e, sym (added_refused b count id term (λ z. h (e ∙ z))))
-
-  pub passed : r ≡ 0 → Adds b count id term
-  passed z = number_adds b count id term (sym e ∙ z)
-
-  pub grew : r ≡ 0 → (o : List ℕ) → let n = get_or b 2 0 in o ≡ set (over b (4 + 12 * n) (id ++ (part b (4 + 12 * n) count ++ term))) 2 (n + 1)
-      → (0 ≡ add_number b count id term) × (o ≡ add_bytes b count id term)
-  grew z o w =
-      let a = passed z in
-      (sym z ∙ e, (w ∙ rw (byte_two b count id term a) (grow_buffer b count id term a) ∙ sym (added_accepted b count id term (sym e ∙ z))))
+pub grew : (b : List ℕ) (count : ℕ) (id term : List ℕ) → 0 ≡ add_number b count id term → (o : List ℕ)
+    → let n = get_or b 2 0 in o ≡ set (over b (4 + 12 * n) (id ++ (part b (4 + 12 * n) count ++ term))) 2 (n + 1)
+    → o ≡ add_bytes b count id term
+grew b count id term e o w =
+    let a = number_adds b count id term (sym e) in
+    w ∙ rw (byte_two b count id term a) (grow_buffer b count id term a) ∙ sym (added_accepted b count id term (sym e))

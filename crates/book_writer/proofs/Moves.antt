@@ -1,24 +1,19 @@
--- A part of a buffer written over it at a higher place, the last byte first; and the three writes of a book that grows, as one. Assumes nothing.
-use Prim.Native.Nat.{ℕ, suc, ◌+◌, ◌-◌, ◌≤◌}
-use mathlib.Core.Path.{◌≡◌, sym, ap, ◌∙◌}
+-- A part of a buffer written over it at a higher place; and the three writes of a book that grows, as one. Assumes nothing.
+use Prim.Native.Nat.{ℕ, ◌+◌, ◌-◌, ◌≤◌}
+use mathlib.Core.Path.{◌≡◌, ap, ◌∙◌}
 use mathlib.Core.List.{List, ◌++◌, append_assoc}
 use native.Mathlib.Omega.{arith}
-use lib.ListN.{length, set, get_or, length-append}
-use Rattle.lists.proofs.Slices.{part, part_more, length_part}
+use lib.ListN.{length, length-append}
+use Rattle.std.specs.List.{copy_within}
+use Rattle.lists.proofs.Slices.{part, length_part}
 use Rattle.text.specs.Text.{over}
-use Rattle.text.proofs.Over.{over_none, over_over, over_before, over_front, over_below}
+use Rattle.text.proofs.Over.{over_over, over_below}
 
--- ---- the loop that moves it
+-- ---- the part, as the library writes it
 
-pub move_none : (d : List ℕ) (to by : ℕ) → d ≡ over d (to + by) (part d to to)
-move_none d to by = let m : to - to ≡ 0 = omega arith in rw m (sym (over_none d (to + by)))
-
-pub move_more : (d : List ℕ) (i j to by : ℕ) (o : List ℕ) → suc j ≡ i → i ≤ to → to + by ≤ length d → o ≡ over d (i + by) (part d i to)
-    → set o (j + by) (get_or o j 0) ≡ over d (j + by) (part d j to)
-move_more d i j to by o p h k e =
-    let m : i + by ≡ suc (j + by) = omega arith in
-    let g : get_or o j 0 ≡ get_or d j 0 = rw e (over_before d (i + by) (part d i to) j (omega arith) (omega arith)) in
-    rw (g, e, m, part_more d 0 j to (omega arith) (omega arith), p) (over_front d (j + by) (part d i to) (get_or d j 0) (omega arith))
+pub moved : (d : List ℕ) (at count by : ℕ) → at ≤ count → count ≤ length d → copy_within d at count (at + by) ≡ over d (at + by) (part d at count)
+unfolding over
+moved d at count by h k = let l = length_part d at count h k in rw l
 
 -- ---- the identifier, the terms after it, the new one last
 

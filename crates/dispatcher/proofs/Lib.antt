@@ -11,7 +11,6 @@ pub mod Ready
 pub mod Form
 pub mod Bytes
 pub mod Turns
-pub mod Search
 pub mod OnTable
-pub mod Look
+pub mod Made
 pub mod One

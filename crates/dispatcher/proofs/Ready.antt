@@ -17,6 +17,7 @@ use Rattle.table.proofs.Open.{recount_most, recount_some}
 use Rattle.validity_message.specs.Message.{empty_message}
 use Rattle.validity.specs.Validity.{table_ok}
 use Rattle.table.specs.Needs.{Within, Ready}
+use Rattle.dispatcher.specs.Apply.{Passed}
 use Rattle.protocol_preservation.proofs.Empty.{empty_message_lem}
 use Rattle.protocol_preservation.proofs.Ok.{Ok, slot, tests, ok, counts, used_most}
 use Rattle.protocol_preservation.proofs.Passed.{facts, message_facts}
@@ -25,6 +26,14 @@ use Rattle.protocol_preservation.proofs.Accepted.{in_flight}
 -- the lengths are those of the table's arrays, which the code knows
 pub passed_sized : (t : Table) → Long t → table_ok t ≡ true → Sized t
 passed_sized t l h = sized t l (used_most t (tests t h).sizes)
+
+-- as a record, either way
+pub passed : (t : Table) → Sized t → table_ok t ≡ true → Passed t
+passed t s h = record { ok = h; jobs = s.jobs; machines = s.machines; told = s.told; pools = s.pools; messages = s.messages }
+
+pub measured : (t : Table) → Passed t → Sized t
+measured t p =
+    record { jobs = p.jobs; machines = p.machines; told = p.told; pools = p.pools; messages = p.messages; used = used_most t (tests t p.ok).sizes }
 
 within : (t : Table) → Sized t → Ok t → (i : ℕ) → i < t.in_flight → Within (message_at t i)
 within t s o i h =

@@ -1,8 +1,9 @@
 -- The numbers of events 1, 3 and 6 and the change of event 1, by parts, are those on the table. Assumes nothing.
 use mathlib.Core.Path.{◌≡◌, sym}
 use Prim.Native.Nat.{ℕ, max}
+use Rattle.std.proofs.Common.{None}
 use Rattle.table.specs.declared.Table.{Table}
-use Rattle.table.specs.Views.{no_message, job_at, machine_at, pool_at}
+use Rattle.table.specs.Views.{job_at, machine_at, pool_at}
 use Rattle.table.specs.Messages.{oldest}
 use Rattle.table.specs.Pools.{enter}
 use Rattle.table.specs.Parts.{opened}
@@ -19,7 +20,7 @@ admit_number_lem t a = sym (judged_number t _ (admitted t a))
 
 pub made_admitted : (t : Table) (a : ℕ) → made t 0 a (admit_change (parts_at t 0 a)) ≡ admitted t a
 unfolding admit_change parts_at send_some admitted enter
-made_admitted t a = simp views (made_job_cell t 0 a (opened 1) (max (pool_at t 0 a) 1) no_message)
+made_admitted t a = simp views (made_job_cell t 0 a (opened 1) (max (pool_at t 0 a) 1) None)
 
 pub deliver_number_lem : (t : Table) (a b : ℕ) → deliver_number t.in_flight (oldest t a b) ≡ (deliver_of t a b).number
 unfolding deliver_of

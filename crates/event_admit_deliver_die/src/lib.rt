@@ -4,69 +4,64 @@
 #![tactic(auto)]
 
 ghost use Rattle.std.specs.Prelude.{◌≡◌, ◌<◌, ◌≤◌};
+ghost use Rattle.refusal.specs.Numbers.{answer_of};
 ghost use Rattle.event_admit_deliver_die.specs.AdmitDeliverDie.{admit_number, deliver_number, died, die_number};
 ghost use Rattle.event_admit_deliver_die.specs.AdmitDeliverDieParts.{admit_change};
 
 use protocol_change::{Change, Parts};
+use refusal::Refusal;
 use table::{Job, Machine, Table};
 
 // Event 1: its number, for job v.
-pub fn admit_number(v: Job) -> u8
-    ensures { result ≡ admit_number v }
+#[tactic(auto, unfolding(crate::specs::AdmitDeliverDie::admit_number))]
+pub fn admit_number(v: Job) -> Result<(), Refusal>
+    ensures { answer_of result ≡ admit_number v }
 {
     if v.state != table::NOT_ADMITTED {
-        return 13;
+        return Err(Refusal::AlreadyAdmitted);
     }
-    0
+    Ok(())
 }
 
 // The job becomes open, replica 1, on 0, and enters the root's pool.
+#[tactic(auto, unfolding(crate::specs::AdmitDeliverDieParts::admit_change, protocol_change::specs::Change::silent))]
 pub fn admitted(p: Parts) -> Change
     ensures { result ≡ admit_change p }
 {
-    let job = Job {
-        state: table::OPEN,
-        replica: 1,
-        moving: 0,
-        holder: 0,
-        thief: 0,
-        price: 0,
-    };
-    let machine = p.machine;
-    let cell = protocol_pools::larger(p.cell, 1);
-    let sent = table::NO_MESSAGE;
     Change {
-        job,
-        machine,
-        cell,
-        sent,
+        job: table::open_job(1),
+        cell: p.cell.max(1),
+        ..protocol_change::silent(p)
     }
 }
 
 // Event 3: its number, for the number of messages in flight and the slot of the oldest from a to b, which is that number where there is none.
-pub fn deliver_number(used: usize, slot: usize) -> u8
-    ensures { result ≡ deliver_number used slot }
+#[tactic(auto, unfolding(crate::specs::AdmitDeliverDie::deliver_number))]
+pub fn deliver_number(used: usize, slot: usize) -> Result<(), Refusal>
+    ensures { answer_of result ≡ deliver_number used slot }
 {
     if used <= slot {
-        return 15;
+        return Err(Refusal::NoneInFlight);
     }
-    0
+    Ok(())
 }
 
 // Event 6: its number, for machine a, which is n.
-pub fn die_number(a: u8, n: Machine) -> u8
-    ensures { result ≡ die_number a n }
+#[tactic(auto, unfolding(crate::specs::AdmitDeliverDie::die_number))]
+pub fn die_number(a: u8, n: Machine) -> Result<(), Refusal>
+    ensures { answer_of result ≡ die_number a n }
 {
     if a == 0 {
-        return 20;
+        return Err(Refusal::RootNeverDies);
     }
     if n.alive != 1 {
-        return 12;
+        return Err(Refusal::DeadMachine);
     }
-    0
+    Ok(())
 }
 
 // Machine a's pool, reserved, running and waiting are cleared, and messages to it are dropped.
+#[tactic(auto, unfolding(crate::specs::AdmitDeliverDie::died, table::specs::Views::parts), using(table::proofs::ClearPool::used_clear_pool))]
 pub fn died(t: Table, a: u8) -> Table
     requires { (a < 16) × (t.in_flight ≤ 128) }
     ensures { result ≡ died t a }

@@ -3,24 +3,28 @@
 #![tactic(auto)]
 
 ghost use Rattle.std.specs.Prelude.{◌≡◌, ◌<◌};
+ghost use Rattle.refusal.specs.Numbers.{answer_of};
 ghost use Rattle.event_join.specs.Join.{joined, join_number};
 
+use refusal::Refusal;
 use table::Table;
 
 // Event 8: its number, for a table of so many machines, the dead ones among them.
-pub fn join_number(count: u8, a: u8) -> u8
-    ensures { result ≡ join_number count a }
+#[tactic(auto, unfolding(crate::specs::Join::join_number))]
+pub fn join_number(count: u8, a: u8) -> Result<(), Refusal>
+    ensures { answer_of result ≡ join_number count a }
 {
     if 16 <= count {
-        return 26;
+        return Err(Refusal::NoMachineLeft);
     }
     if a != count {
-        return 27;
+        return Err(Refusal::NotNextMachine);
     }
-    0
+    Ok(())
 }
 
 // Machine a is there, alive, with no copy reserved or running, and no wait. Its pool and what it was told are not written: check 9 has them empty.
+#[tactic(auto, unfolding(crate::specs::Join::joined, table::specs::Views::parts))]
 pub fn joined(t: Table, a: u8) -> Table
     requires { (a < 16) × (t.machine_count < 16) }
     ensures { result ≡ joined t a }

@@ -4,11 +4,14 @@
 ghost use Rattle.std.specs.Prelude.{◌≡◌, ℕ, ◌<◌, ◌≤◌};
 ghost use Rattle.table.specs.Views.{job_at, machine_at};
 ghost use Rattle.table.specs.Needs.{Ready};
+ghost use Rattle.refusal.specs.Numbers.{answer_of};
 ghost use Rattle.event_notice.specs.Notice.{informed, clear_wait, return_reserved, notice_local, affected, reissue, noticed, notice_number};
 
+use refusal::Refusal;
 use table::{Job, Machine, Table};
 
 // a is told that b is dead, and undelivered messages from b to a are dropped.
+#[tactic(auto, unfolding(crate::specs::Notice::informed, table::specs::Views::parts))]
 fn informed(t: Table, a: u8, b: u8) -> Table
     requires { (a < 16) × (b < 16) × (t.in_flight ≤ 128) }
     ensures { result ≡ informed t a b }
@@ -19,21 +22,21 @@ fn informed(t: Table, a: u8, b: u8) -> Table
 }
 
 // If a waits on b, it stops waiting.
+#[tactic(auto, unfolding(crate::specs::Notice::clear_wait, table::specs::Parts::waiting, table::specs::Views::parts))]
 fn clear_wait(t: Table, a: u8, b: u8) -> Table
     requires { (a < 16) × (b < 16) }
     ensures { result ≡ clear_wait t a b }
 {
-    let i = a as usize;
     let mut u = t;
-    let mut n = u.machines[i];
+    let n = &mut u.machines[a as usize];
     if n.waits == b + 1 {
         n.waits = 0;
-        u.machines[i] = n;
     }
     u
 }
 
 // If its reserved copy is for thief b, the copy returns to the pool.
+#[tactic(auto, unfolding(crate::specs::Notice::return_reserved, table::specs::Views::parts))]
 fn return_reserved(t: Table, a: u8, b: u8) -> Table
     requires { (a < 16) × ((machine_at t a).reserved_job < 64) }
     ensures { result ≡ return_reserved t a b }
@@ -48,6 +51,7 @@ fn return_reserved(t: Table, a: u8, b: u8) -> Table
 }
 
 // What every machine does.
+#[tactic(auto, unfolding(crate::specs::Notice::informed, crate::specs::Notice::notice_local, table::specs::Messages::keep_messages, table::specs::Views::parts))]
 fn notice_local(t: Table, a: u8, b: u8) -> Table
     requires a_bound { (a < 16) × (b < 16) × (t.in_flight ≤ 128) }
     requires reserved_job_bound { (machine_at t a).reserved_job < 64 }
@@ -71,19 +75,16 @@ fn reissue(t: Table, b: u8) -> Table
     ensures { result ≡ reissue t b }
 {
     let mut u = t;
-    let mut j: usize = 0;
-    while j < 64 {
-        let k = j;
-        let v = t.jobs[k];
-        j += 1;
-        if affected(v, b) {
-            u = protocol_pools::open_on_root(u, k, v.replica + 1);
+    for (j, v) in t.jobs.iter().enumerate() {
+        if affected(*v, b) {
+            u = protocol_pools::open_on_root(u, j, v.replica + 1);
         }
     }
     u
 }
 
 // The table after an accepted notice.
+#[tactic(auto, unfolding(crate::specs::Notice::noticed), using(crate::proofs::Parts::job_notice_local))]
 pub fn noticed(t: Table, a: u8, b: u8) -> Table
     requires ready { Ready t }
     requires a_bound { (a < t.machine_count) × (b < t.machine_count) }
@@ -97,17 +98,18 @@ pub fn noticed(t: Table, a: u8, b: u8) -> Table
 }
 
 // Its number, for machine a, which is n, and machine b, which is d, and whether a was told that b is dead.
-pub fn notice_number(n: Machine, d: Machine, told: u8) -> u8
-    ensures { result ≡ notice_number n d told }
+#[tactic(auto, unfolding(crate::specs::Notice::notice_number))]
+pub fn notice_number(n: Machine, d: Machine, told: u8) -> Result<(), Refusal>
+    ensures { answer_of result ≡ notice_number n d told }
 {
     if n.alive != 1 {
-        return 12;
+        return Err(Refusal::DeadMachine);
     }
     if d.alive == 1 {
-        return 21;
+        return Err(Refusal::StillAlive);
     }
     if told != 0 {
-        return 22;
+        return Err(Refusal::AlreadyTold);
     }
-    0
+    Ok(())
 }

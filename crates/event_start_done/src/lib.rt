@@ -3,82 +3,83 @@
 #![tactic(auto)]
 
 ghost use Rattle.std.specs.Prelude.{◌≡◌};
+ghost use Rattle.refusal.specs.Numbers.{answer_of};
 ghost use Rattle.event_start_done.specs.StartDone.{start_number, done_number};
 ghost use Rattle.event_start_done.specs.StartDoneParts.{start_change, done_change};
 
 use protocol_change::{Change, Parts};
+use refusal::Refusal;
 use table::{Machine, Message};
 
 // Event 4: its number, for machine n and the replica number of the job in its pool.
-pub fn start_number(n: Machine, cell: u8) -> u8
-    ensures { result ≡ start_number n cell }
+#[tactic(auto, unfolding(crate::specs::StartDone::start_number))]
+pub fn start_number(n: Machine, cell: u8) -> Result<(), Refusal>
+    ensures { answer_of result ≡ start_number n cell }
 {
     if n.alive != 1 {
-        return 12;
+        return Err(Refusal::DeadMachine);
     }
     if n.running_replica != 0 {
-        return 17;
+        return Err(Refusal::AlreadyRunning);
     }
     if cell == 0 {
-        return 18;
+        return Err(Refusal::NotInPool);
     }
-    0
+    Ok(())
 }
 
 // The machine moves job b from its pool to running.
+#[tactic(auto, unfolding(crate::specs::StartDoneParts::start_change, table::specs::Parts::running, protocol_change::specs::Change::silent))]
 pub fn started(p: Parts, b: u8) -> Change
     ensures { result ≡ start_change p b }
 {
-    let job = p.job;
-    let mut machine = p.machine;
-    machine.running_job = b;
-    machine.running_replica = p.cell;
-    let sent = table::NO_MESSAGE;
     Change {
-        job,
-        machine,
+        machine: Machine {
+            running_job: b,
+            running_replica: p.cell,
+            ..p.machine
+        },
         cell: 0,
-        sent,
+        ..protocol_change::silent(p)
     }
 }
 
 // Event 5: its number, for machine n and the number of messages in flight.
-pub fn done_number(n: Machine, used: u8) -> u8
-    ensures { result ≡ done_number n used }
+#[tactic(auto, unfolding(crate::specs::StartDone::done_number))]
+pub fn done_number(n: Machine, used: u8) -> Result<(), Refusal>
+    ensures { answer_of result ≡ done_number n used }
 {
     if n.alive != 1 {
-        return 12;
+        return Err(Refusal::DeadMachine);
     }
     if n.running_replica == 0 {
-        return 19;
+        return Err(Refusal::NothingRunning);
     }
     if 128 <= used {
-        return 16;
+        return Err(Refusal::FullFlight);
     }
-    0
+    Ok(())
 }
 
 // The running copy of machine a goes and RESULT with its price is sent to the root.
+#[tactic(auto, unfolding(crate::specs::StartDoneParts::done_change, table::specs::Parts::pieces, table::specs::Parts::result, protocol_change::specs::Change::silent))]
 pub fn finished(p: Parts, a: u8, bits: u64) -> Change
     ensures { result ≡ done_change p a bits }
 {
-    let job = p.job;
-    let mut machine = p.machine;
-    let sent = Message {
-        kind: table::RESULT,
-        from: a,
-        to: 0,
-        job: machine.running_job,
-        replica: machine.running_replica,
-        thief: 0,
-        price: bits,
-    };
-    machine.running_job = 0;
-    machine.running_replica = 0;
     Change {
-        job,
-        machine,
-        cell: p.cell,
-        sent,
+        machine: Machine {
+            running_job: 0,
+            running_replica: 0,
+            ..p.machine
+        },
+        sent: Some(Message {
+            kind: table::RESULT,
+            from: a,
+            job: p.machine.running_job,
+            replica: p.machine.running_replica,
+            price: bits,
+            ..table::NO_MESSAGE
+        }),
+        ..protocol_change::silent(p)
     }
 }

@@ -1,6 +1,7 @@
 -- Event 2 by parts is event 2 on the table. Assumes nothing.
 use mathlib.Core.Path.{◌≡◌, sym}
 use Prim.Native.Nat.{ℕ, ◌+◌}
+use Rattle.std.proofs.Common.{Some}
 use Rattle.table.specs.declared.Table.{Table}
 use Rattle.table.specs.Views.{machine_at, told_at}
 use Rattle.table.specs.Parts.{waiting, message, FISH}
@@ -16,4 +17,4 @@ steal_number_lem t a b = sym (judged_number t _ (stolen t a b))
 
 pub made_stolen : (t : Table) (a b j : ℕ) → made t a j (steal_change (parts_at t a j) a b) ≡ stolen t a b
 unfolding steal_change parts_at send_some message stolen
-made_stolen t a b j = made_machine t a j (waiting (machine_at t a) (b + 1)) (message FISH a b 0 0 0)
+made_stolen t a b j = made_machine t a j (waiting (machine_at t a) (b + 1)) (Some (message FISH a b 0 0 0))

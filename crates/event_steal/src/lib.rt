@@ -3,55 +3,54 @@
 #![tactic(auto)]
 
 ghost use Rattle.std.specs.Prelude.{◌≡◌, ◌<◌};
+ghost use Rattle.refusal.specs.Numbers.{answer_of};
 ghost use Rattle.event_steal.specs.Steal.{steal_number};
 ghost use Rattle.event_steal.specs.StealParts.{steal_change};
 
 use protocol_change::{Change, Parts};
+use refusal::Refusal;
 use table::{Machine, Message};
 
 // Its number, for thief a, which is n, and victim b, which is v: whether a was told that b is dead, and how many messages are in flight.
-pub fn steal_number(n: Machine, v: Machine, told: u8, used: u8, a: u8, b: u8) -> u8
-    ensures { result ≡ steal_number n v told used a b }
+#[tactic(auto, unfolding(crate::specs::Steal::steal_number))]
+pub fn steal_number(n: Machine, v: Machine, told: u8, used: u8, a: u8, b: u8) -> Result<(), Refusal>
+    ensures { answer_of result ≡ steal_number n v told used a b }
 {
     if n.alive != 1 {
-        return 12;
+        return Err(Refusal::DeadMachine);
     }
     if a == b {
-        return 14;
+        return Err(Refusal::OwnVictim);
     }
     if n.waits != 0 {
-        return 24;
+        return Err(Refusal::AlreadyWaits);
     }
     if told != 0 {
-        return 25;
+        return Err(Refusal::VictimKnownDead);
     }
     if (v.alive == 1) & (128 <= used) {
-        return 16;
+        return Err(Refusal::FullFlight);
     }
-    0
+    Ok(())
 }
 
 // Thief a sends FISH to b and waits on b.
+#[tactic(auto, unfolding(crate::specs::StealParts::steal_change, table::specs::Parts::waiting, table::specs::Parts::message, protocol_change::specs::Change::silent))]
 pub fn stolen(p: Parts, a: u8, b: u8) -> Change
     requires { b < 255 }
     ensures { result ≡ steal_change p a b }
 {
-    let job = p.job;
-    let mut machine = p.machine;
-    machine.waits = b + 1;
-    let sent = Message {
-        kind: table::FISH,
-        from: a,
-        to: b,
-        job: 0,
-        replica: 0,
-        thief: 0,
-        price: 0,
-    };
     Change {
-        job,
-        machine,
-        cell: p.cell,
-        sent,
+        machine: Machine {
+            waits: b + 1,
+            ..p.machine
+        },
+        sent: Some(Message {
+            kind: table::FISH,
+            from: a,
+            to: b,
+            ..table::NO_MESSAGE
+        }),
+        ..protocol_change::silent(p)
     }
 }

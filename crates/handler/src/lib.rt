@@ -8,33 +8,38 @@ ghost use Rattle.handler.specs.HandlerParts.{lowest_for, handled_job, handle_cha
 use protocol_change::{Change, Parts};
 use table::Message;
 
-// The lowest job of the machine that a FISH is to; 64 for any other message.
-pub fn lowest_for(m: Message, pools: &[u8; 1024]) -> usize
+// The lowest job of the machine that a FISH is to; none for any other message.
+#[tactic(auto, unfolding(crate::specs::HandlerParts::lowest_for))]
+pub fn lowest_for(m: Message, pools: &[u8; 1024]) -> Option<u8>
     requires { m.to < 16 }
     ensures { result ≡ lowest_for m pools.now }
 {
     if m.kind == table::FISH {
-        return protocol_pools::lowest(pools, m.to as usize);
+        protocol_pools::lowest(pools, m.to as usize)
+    } else {
+        None
     }
-    64
 }
 
 // The job that a message is about.
-pub fn handled_job(m: Message, low: usize) -> usize
+#[tactic(auto, unfolding(crate::specs::HandlerParts::handled_job))]
+pub fn handled_job(m: Message, low: Option<u8>) -> usize
     ensures { result ≡ handled_job m low }
 {
     if m.kind == table::FISH {
-        return handler_victim::fish_job(low);
+        handler_victim::fish_job(low)
+    } else {
+        m.job as usize
     }
-    m.job as usize
 }
 
 // "handled by b": by kind.
-pub fn handle(p: Parts, m: Message, told: u8, low: usize) -> Change
+#[tactic(auto, unfolding(crate::specs::HandlerParts::handle_change))]
+pub fn handle(p: Parts, m: Message, told: u8, low: Option<u8>) -> Change
     ensures { result ≡ handle_change p m told low }
 {
-    let kind = m.kind;
-    match kind {
+    // A match on numbers: the kinds are bytes in a table, and check 9 and this definition are of tables with any bytes in them.
+    match m.kind {
         table::FISH => handler_victim::on_fish(p, m, low),
         table::REQ => handler_root::on_req(p, m, told),
         table::AUTH => handler_victim::on_auth(p, m),

@@ -6,9 +6,10 @@ ghost use Rattle.std.specs.Prelude.{◌≡◌};
 ghost use Rattle.handler_root.specs.RootParts.{answer, req_change, ack_change, result_change};
 
 use protocol_change::{Change, Parts};
-use table::Message;
+use table::{Job, Message};
 
 // The root's answer to a REQ.
+#[tactic(auto, unfolding(crate::specs::RootParts::answer, table::specs::Parts::message))]
 fn reply(m: Message, kind: u8) -> Message
     ensures { result ≡ answer m kind }
 {
@@ -16,84 +17,73 @@ fn reply(m: Message, kind: u8) -> Message
         kind,
         from: 0,
         to: m.from,
-        job: m.job,
-        replica: m.replica,
-        thief: m.thief,
         price: 0,
+        ..m
     }
 }
 
 // The root moves a job only where the copy is current, the thief is not known as dead and the job is not moving yet.
+#[tactic(auto, unfolding(crate::specs::RootParts::req_change, table::specs::Parts::moved, protocol_change::specs::Change::silent))]
 pub fn on_req(p: Parts, m: Message, told: u8) -> Change
     ensures { result ≡ req_change p m told }
 {
-    let mut job = p.job;
-    let machine = p.machine;
-    if (job.state == table::PRICED) | (job.replica != m.replica) {
-        let sent = reply(m, table::OBSOLETE);
+    if (p.job.state == table::PRICED) | (p.job.replica != m.replica) {
         return Change {
-            job,
-            machine,
-            cell: p.cell,
-            sent,
+            sent: Some(reply(m, table::OBSOLETE)),
+            ..protocol_change::silent(p)
         };
     }
-    if (told != 0) | (job.moving != 0) {
-        let sent = reply(m, table::DENIED);
+    if (told != 0) | (p.job.moving != 0) {
         return Change {
-            job,
-            machine,
-            cell: p.cell,
-            sent,
+            sent: Some(reply(m, table::DENIED)),
+            ..protocol_change::silent(p)
         };
     }
-    job.moving = 1;
-    job.holder = m.from;
-    job.thief = m.thief;
-    let sent = reply(m, table::AUTH);
     Change {
-        job,
-        machine,
-        cell: p.cell,
-        sent,
+        job: Job {
+            moving: 1,
+            holder: m.from,
+            thief: m.thief,
+            ..p.job
+        },
+        sent: Some(reply(m, table::AUTH)),
+        ..protocol_change::silent(p)
     }
 }
 
 // The job is on the sender, where it is open and the replica current.
+#[tactic(auto, unfolding(crate::specs::RootParts::ack_change, table::specs::Parts::placed, protocol_change::specs::Change::silent))]
 pub fn on_ack(p: Parts, m: Message) -> Change
     ensures { result ≡ ack_change p m }
 {
-    let mut job = p.job;
-    let machine = p.machine;
-    let sent = table::NO_MESSAGE;
-    if (job.state == table::OPEN) & (job.replica == m.replica) {
-        job.moving = 0;
-        job.holder = m.from;
-        job.thief = 0;
+    if (p.job.state != table::OPEN) | (p.job.replica != m.replica) {
+        return protocol_change::silent(p);
     }
     Change {
-        job,
-        machine,
-        cell: p.cell,
-        sent,
+        job: Job {
+            moving: 0,
+            holder: m.from,
+            thief: 0,
+            ..p.job
+        },
+        ..protocol_change::silent(p)
     }
 }
 
 // An open job becomes priced with this price.
+#[tactic(auto, unfolding(crate::specs::RootParts::result_change, table::specs::Parts::priced, protocol_change::specs::Change::silent))]
 pub fn on_result(p: Parts, m: Message) -> Change
     ensures { result ≡ result_change p m }
 {
-    let mut job = p.job;
-    let machine = p.machine;
-    let sent = table::NO_MESSAGE;
-    if job.state == table::OPEN {
-        job.state = table::PRICED;
-        job.price = m.price;
+    if p.job.state != table::OPEN {
+        return protocol_change::silent(p);
     }
     Change {
-        job,
-        machine,
-        cell: p.cell,
-        sent,
+        job: Job {
+            state: table::PRICED,
+            price: m.price,
+            ..p.job
+        },
+        ..protocol_change::silent(p)
     }
 }

@@ -1,8 +1,7 @@
 -- Document 01, "The table", "Handling, by kind", SCHEDULE and NOWORK: what a thief makes of itself and of the cell in its pool that a message to it
 -- is about. On a table this is specs/Thief.antt (proofs/Made.antt). Definitions only.
-use Rattle.std.specs.Prelude.{max}
+use Rattle.std.specs.Prelude.{max, None, Some}
 use Rattle.table.specs.declared.Message.{Message}
-use Rattle.table.specs.Views.{no_message}
 use Rattle.table.specs.Parts.{waiting, message, ACK}
 use Rattle.protocol_change.specs.declared.Parts.{Parts}
 use Rattle.protocol_change.specs.declared.Change.{Change}
@@ -14,9 +13,9 @@ schedule_change p m =
       job = p.job;
       machine = waiting p.machine 0;
       cell = max p.cell m.replica;
-      sent = message ACK m.to 0 m.job m.replica 0;
+      sent = Some (message ACK m.to 0 m.job m.replica 0);
     }
 
 -- "NOWORK: waiting ends."
 unfoldable pub no_work_change : Parts → Change
-no_work_change p = record { job = p.job; machine = waiting p.machine 0; cell = p.cell; sent = no_message }
+no_work_change p = record { job = p.job; machine = waiting p.machine 0; cell = p.cell; sent = None }

@@ -6,45 +6,36 @@ ghost use Rattle.std.specs.Prelude.{◌≡◌};
 ghost use Rattle.handler_thief.specs.ThiefParts.{schedule_change, no_work_change};
 
 use protocol_change::{Change, Parts};
-use table::Message;
+use table::{Machine, Message};
 
 // The copy enters the pool, waiting ends, and the root is told.
+#[tactic(auto, unfolding(crate::specs::ThiefParts::schedule_change, crate::specs::ThiefParts::no_work_change, table::specs::Parts::message))]
 pub fn on_schedule(p: Parts, m: Message) -> Change
     ensures { result ≡ schedule_change p m }
 {
-    let job = p.job;
-    let mut thief = p.machine;
-    thief.waits = 0;
-    let cell = protocol_pools::larger(p.cell, m.replica);
-    let sent = Message {
-        kind: table::ACK,
-        from: m.to,
-        to: 0,
-        job: m.job,
-        replica: m.replica,
-        thief: 0,
-        price: 0,
-    };
     Change {
-        job,
-        machine: thief,
-        cell,
-        sent,
+        cell: p.cell.max(m.replica),
+        sent: Some(Message {
+            kind: table::ACK,
+            from: m.to,
+            job: m.job,
+            replica: m.replica,
+            ..table::NO_MESSAGE
+        }),
+        ..on_no_work(p)
     }
 }
 
 // Waiting ends.
+#[tactic(auto, unfolding(crate::specs::ThiefParts::no_work_change, table::specs::Parts::waiting, protocol_change::specs::Change::silent))]
 pub fn on_no_work(p: Parts) -> Change
     ensures { result ≡ no_work_change p }
 {
-    let job = p.job;
-    let mut idle = p.machine;
-    idle.waits = 0;
-    let sent = table::NO_MESSAGE;
     Change {
-        job,
-        machine: idle,
-        cell: p.cell,
-        sent,
+        machine: Machine {
+            waits: 0,
+            ..p.machine
+        },
+        ..protocol_change::silent(p)
     }
 }

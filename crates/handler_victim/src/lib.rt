@@ -3,11 +3,12 @@
 #![tactic(auto)]
 
 ghost use Rattle.std.specs.Prelude.{◌≡◌};
-ghost use Rattle.table.specs.Parts.{release, reserves};
+ghost use Rattle.table.specs.Parts.{reserves};
 ghost use Rattle.handler_victim.specs.VictimParts.{
   no_work_from,
   fish_job,
   fish_change,
+  let_go,
   auth_change,
   denied_change,
   obsolete_change,
@@ -17,6 +18,7 @@ use protocol_change::{Change, Parts};
 use table::{Machine, Message};
 
 // The NOWORK of one machine to another.
+#[tactic(auto, unfolding(table::specs::Parts::message))]
 fn no_work(from: u8, to: u8) -> Message
     ensures { result ≡ no_work_from from to }
 {
@@ -24,141 +26,102 @@ fn no_work(from: u8, to: u8) -> Message
         kind: table::NOWORK,
         from,
         to,
-        job: 0,
-        replica: 0,
-        thief: 0,
-        price: 0,
+        ..table::NO_MESSAGE
     }
 }
 
 // The job whose cell a FISH looks at: the lowest, 0 where there is none.
-pub fn fish_job(low: usize) -> usize
+#[tactic(auto, unfolding(crate::specs::VictimParts::fish_job))]
+pub fn fish_job(low: Option<u8>) -> usize
     ensures { result ≡ fish_job low }
 {
-    if 64 <= low {
-        return 0;
-    }
-    low
+    low.unwrap_or(0) as usize
 }
 
 // The lowest job of the pool is reserved for the thief, or the thief gets NOWORK.
-pub fn on_fish(p: Parts, m: Message, low: usize) -> Change
+#[tactic(auto, unfolding(crate::specs::VictimParts::fish_change, table::specs::Parts::reserve, table::specs::Parts::message, protocol_change::specs::Change::silent))]
+pub fn on_fish(p: Parts, m: Message, low: Option<u8>) -> Change
     ensures { result ≡ fish_change p m low }
 {
-    let job = p.job;
-    let mut machine = p.machine;
-    if (machine.reserved_replica != 0) | (64 <= low) {
-        let sent = no_work(m.to, m.from);
-        return Change {
-            job,
-            machine,
-            cell: p.cell,
-            sent,
-        };
-    }
-    let lowest = low as u8;
-    machine.reserved_job = lowest;
-    machine.reserved_replica = p.cell;
-    machine.reserved_thief = m.from;
-    let sent = Message {
-        kind: table::REQ,
-        from: m.to,
-        to: 0,
-        job: lowest,
-        replica: p.cell,
-        thief: m.from,
-        price: 0,
-    };
-    Change {
-        job,
-        machine,
-        cell: 0,
-        sent,
+    match low {
+        Some(job) if p.machine.reserved_replica == 0 => Change {
+            machine: Machine {
+                reserved_job: job,
+                reserved_replica: p.cell,
+                reserved_thief: m.from,
+                ..p.machine
+            },
+            cell: 0,
+            sent: Some(Message {
+                kind: table::REQ,
+                from: m.to,
+                job,
+                replica: p.cell,
+                thief: m.from,
+                ..table::NO_MESSAGE
+            }),
+            ..protocol_change::silent(p)
+        },
+        _ => Change {
+            sent: Some(no_work(m.to, m.from)),
+            ..protocol_change::silent(p)
+        },
     }
 }
 
 // Whether the reserved copy is the one that the message names.
+#[tactic(auto, unfolding(table::specs::Parts::reserves, table::specs::Parts::copy_is))]
 fn reserves(n: Machine, m: Message) -> bool
     ensures { result ≡ reserves n m.job m.replica m.thief }
 {
     (n.reserved_replica != 0)
-        & ((n.reserved_job == m.job)
-            & ((n.reserved_replica == m.replica) & (n.reserved_thief == m.thief)))
+        & ((n.reserved_job, n.reserved_replica, n.reserved_thief) == (m.job, m.replica, m.thief))
 }
 
-// The reserved copy of a machine is gone.
-fn released(n: Machine) -> Machine
-    ensures { result ≡ release n }
+// Where the reserved copy is the one that the message names, it goes: its job's cell is then this one, and this message is sent.
+#[tactic(auto, unfolding(crate::specs::VictimParts::let_go, protocol_change::specs::Change::silent))]
+fn let_go(p: Parts, m: Message, cell: u8, sent: Message) -> Change
+    ensures { result ≡ let_go p m cell sent }
 {
-    let mut rest = n;
-    rest.reserved_job = 0;
-    rest.reserved_replica = 0;
-    rest.reserved_thief = 0;
-    rest
+    if !reserves(p.machine, m) {
+        return protocol_change::silent(p);
+    }
+    Change {
+        job: p.job,
+        machine: table::released(p.machine),
+        cell,
+        sent: Some(sent),
+    }
 }
 
-// The reserved copy goes to the thief, where it is the one that the message names.
+// The reserved copy goes to the thief.
+#[tactic(auto, unfolding(crate::specs::VictimParts::auth_change, crate::specs::VictimParts::let_go, table::specs::Parts::message))]
 pub fn on_auth(p: Parts, m: Message) -> Change
     ensures { result ≡ auth_change p m }
 {
-    let job = p.job;
-    let machine = p.machine;
-    if reserves(machine, m) {
-        let gone = released(machine);
-        let sent = Message {
-            kind: table::SCHEDULE,
-            from: m.to,
-            to: m.thief,
-            job: m.job,
-            replica: m.replica,
-            thief: 0,
-            price: 0,
-        };
-        return Change {
-            job,
-            machine: gone,
-            cell: p.cell,
-            sent,
-        };
-    }
-    protocol_change::silent(p)
+    let schedule = Message {
+        kind: table::SCHEDULE,
+        from: m.to,
+        to: m.thief,
+        job: m.job,
+        replica: m.replica,
+        ..table::NO_MESSAGE
+    };
+    let_go(p, m, p.cell, schedule)
 }
 
-// The reserved copy returns to the pool, where it is the one that the message names.
+// The reserved copy returns to the pool.
+#[tactic(auto, unfolding(crate::specs::VictimParts::denied_change, crate::specs::VictimParts::let_go))]
 pub fn on_denied(p: Parts, m: Message) -> Change
     ensures { result ≡ denied_change p m }
 {
-    let job = p.job;
-    let machine = p.machine;
-    if reserves(machine, m) {
-        let back = released(machine);
-        let cell = protocol_pools::larger(p.cell, m.replica);
-        let refusal = no_work(m.to, m.thief);
-        return Change {
-            job,
-            machine: back,
-            cell,
-            sent: refusal,
-        };
-    }
-    protocol_change::silent(p)
+    let_go(p, m, p.cell.max(m.replica), no_work(m.to, m.thief))
 }
 
-// The reserved copy is discarded, where it is the one that the message names.
+// The reserved copy is discarded.
+#[tactic(auto, unfolding(crate::specs::VictimParts::obsolete_change, crate::specs::VictimParts::let_go))]
 pub fn on_obsolete(p: Parts, m: Message) -> Change
     ensures { result ≡ obsolete_change p m }
 {
-    let job = p.job;
-    let machine = p.machine;
-    if reserves(machine, m) {
-        let rest = released(machine);
-        let sent = no_work(m.to, m.thief);
-        return Change {
-            job,
-            machine: rest,
-            cell: p.cell,
-            sent,
-        };
-    }
-    protocol_change::silent(p)
+    let_go(p, m, p.cell, no_work(m.to, m.thief))
 }

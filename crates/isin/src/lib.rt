@@ -2,8 +2,11 @@
 #![tactic(auto)]
 
 ghost use Rattle.std.specs.Prelude.{◌≡◌, true, ℕ, ◌+◌, ◌≤◌, ◌<◌, length, get_or};
+ghost use Rattle.refusal.specs.Numbers.{answer_of};
 ghost use Rattle.isin.specs.Isin.{value_of, weight, sum_of, all_in, has_form, verdict_of};
 ghost use Rattle.isin.specs.Values.{is_letter, is_digit, is_allowed, by_arithmetic};
+
+use refusal::Refusal;
 
 // A digit doubled, the digits of the doubled number added.
 const DOUBLED: [u8; 10] = [0, 2, 4, 6, 8, 1, 3, 5, 7, 9];
@@ -12,14 +15,14 @@ const DOUBLED: [u8; 10] = [0, 2, 4, 6, 8, 1, 3, 5, 7, 9];
 fn is_letter(b: u8) -> bool
     ensures { result ≡ is_letter b }
 {
-    (65 <= b) & (b <= 90)
+    b.is_ascii_uppercase()
 }
 
 // Whether b is one of 0 to 9.
 fn is_digit(b: u8) -> bool
     ensures { result ≡ is_digit b }
 {
-    (48 <= b) & (b <= 57)
+    b.is_ascii_digit()
 }
 
 // Whether b is an allowed character.
@@ -55,11 +58,9 @@ fn sum(s: &[u8]) -> u32
     ensures value { result ≡ sum_of s.now }
     ensures upper_bound { result < 1000 }
 {
-    let mut i = s.len();
     let mut t: u32 = 0;
     let mut twice = true;
-    while 0 < i {
-        i -= 1;
+    for i in (0..s.len()).rev() {
         let v = value(s[i]);
         if is_digit(s[i]) {
             t += weighed(v, twice) as u32;
@@ -76,16 +77,15 @@ fn sum(s: &[u8]) -> u32
 fn all_allowed(s: &[u8]) -> bool
     ensures { result ≡ all_in 0 35 s.now }
 {
-    let mut i = 0;
     let mut allowed = true;
-    while i < s.len() {
-        allowed = allowed & is_allowed(s[i]);
-        i += 1;
+    for b in s {
+        allowed &= is_allowed(*b);
     }
     allowed
 }
 
 // Two letters, nine letters or digits, one digit.
+#[tactic(auto, using(crate::proofs::Form::two_letters, crate::proofs::Form::check_digit), unfolding(crate::specs::Isin::has_form))]
 fn has_form(id: &[u8]) -> bool
     ensures { result ≡ has_form id.now }
 {
@@ -95,13 +95,17 @@ fn has_form(id: &[u8]) -> bool
     is_letter(id[0]) & is_letter(id[1]) & all_allowed(&id[2..11]) & is_digit(id[11])
 }
 
-// 0 for an identifier that passes, 4 for its form, 5 for its check digit.
-pub fn verdict(id: &[u8]) -> u8
-    ensures { result ≡ verdict_of id.now }
+// Whether an identifier passes: its form, and then its check digit.
+pub fn verdict(id: &[u8]) -> Result<(), Refusal>
+    ensures { answer_of result ≡ verdict_of id.now }
 {
     if !has_form(id) {
-        return 4;
+        return Err(Refusal::IdentifierForm);
     }
     let t = sum(&id[0..11]) + value(id[11]) as u32;
-    if t % 10 == 0 { 0 } else { 5 }
+    if t % 10 == 0 {
+        Ok(())
+    } else {
+        Err(Refusal::CheckDigit)
+    }
 }

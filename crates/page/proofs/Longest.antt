@@ -4,8 +4,9 @@ use mathlib.Core.Path.{◌≡◌, sym, ◌∙◌}
 use mathlib.Core.Bool.{true}
 use mathlib.Core.List.{List, [], ◌++◌}
 use native.Mathlib.Omega.{arith}
+use Rattle.std.proofs.lemmas.Bool.Decides.{nat_tests}
 use borrow.Author.Tests.{eqb-true}
-use lib.Dec.{eqb, ltb}
+use lib.Dec.{eqb}
 use lib.ListN.{length, take, drop, length-append, length-take}
 use Rattle.lists.proofs.Cases.{by_bool}
 use Rattle.lists.proofs.Scans.{length_tabulate}
@@ -36,10 +37,7 @@ use Rattle.page.proofs.Opened.{number_small}
 
 pub identifier_most : (book : List ℕ) (i : ℕ) → length (identifier_of book i) ≤ 12
 unfolding identifier_of identifier_at
-identifier_most book i =
-    by_bool (ltb i (entry_count_of book))
-    (λ e. rw (e, identifier_of) (omega (arith, length-take 12 (drop (4 + 12 * i) book))))
-    (λ e. rw (e, identifier_of) (omega arith))
+identifier_most book i = grind (arith, nat_tests, length-take 12 (drop (4 + 12 * i) book))
 
 -- ---- the entries
 

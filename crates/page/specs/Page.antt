@@ -1,5 +1,5 @@
 -- Document 01, "The program's page": the text that is printed for a book and a list of events. Definitions only.
-use Rattle.std.specs.Prelude.{ℕ, ◌+◌, ◌*◌, ◌≡◌, true, false, cond, List, ◌++◌, eqb, ltb, length, take}
+use Rattle.std.specs.Prelude.{ℕ, ◌+◌, ◌*◌, ◌≡◌, cond, Option, Some, None, List, ◌++◌, eqb, ltb, length, take}
 use Rattle.text.specs.Text.{over, joined}
 use Rattle.page_lines.specs.Lines.{book_refused_line, open_jobs_line, entry_line}
 use Rattle.book.specs.Parts.{entry_count_of, identifier_of}
@@ -10,7 +10,6 @@ use Rattle.dispatcher.specs.Step.{run_of, answers_of}
 use Rattle.claims.specs.Claims.{Demand3}
 use Rattle.dispatcher.specs.Events.{bytes_most, events_in}
 use Rattle.page_run.specs.Run.{refusals_most, refusals}
-use Rattle.page.specs.declared.Printed.{Printed}
 
 -- "events.bin (at most 60,000 bytes; later ones are not read)"
 unfoldable pub events_of : List ℕ → List (List ℕ)
@@ -52,11 +51,9 @@ longest = refusals_most + entries_most + open_jobs_most
 unfoldable pub buffer_of : List ℕ → List ℕ → List ℕ → List ℕ
 buffer_of book events out = cond (ltb (length out) longest) out (over out 0 (page_of book events))
 
--- what it answers
-unfoldable pub printed_of : List ℕ → List ℕ → List ℕ → Printed
-printed_of book events out =
-    cond (ltb (length out) longest) (record { written = false; length = 0 })
-    (record { written = true; length = length (page_of book events) })
+-- what it answers: the length of the page, unless the buffer is refused
+unfoldable pub printed_of : List ℕ → List ℕ → List ℕ → Option ℕ
+printed_of book events out = cond (ltb (length out) longest) None (Some (length (page_of book events)))
 
 -- what is promised of the text for an accepted book: it tells numbers and a table of which demand 3 holds. These are then the ones that the run
 -- answered and returned, and no text but the page tells them (`reported_only`, proofs/Reports.antt)

@@ -2,13 +2,11 @@
 use Prim.Native.Nat.{ℕ, ◌+◌, ◌≤◌, ◌<◌}
 use mathlib.Core.List.{List, ◌++◌}
 use native.Mathlib.Omega.{arith}
-use lib.Dec.{eqb}
+use Rattle.std.proofs.lemmas.Bool.Decides.{nat_tests}
 use lib.ListN.{length, length-append}
-use Rattle.lists.proofs.Cases.{by_bool}
 use Rattle.text.specs.Text.{ascii, decimal, hex16}
 use Rattle.text.proofs.Digits.{two_digits, five_digits, length_hex}
 use Rattle.table.specs.declared.Job.{Job}
-use Rattle.table.specs.Parts.{NOT_ADMITTED, OPEN}
 use Rattle.page_lines.specs.Lines.{line_end, book_refused_line, event_refused_line, not_admitted_line, open_line, priced_line, open_jobs_line, entry_line}
 
 pub line_end_most : (w : List ℕ) (n : ℕ) → n < 100 → length (line_end w n) ≤ length w + 3
@@ -56,7 +54,4 @@ module _ (identifier : List ℕ) where
 
   pub entry_most : (v : Job) → v.replica < 100 → length (entry_line identifier v) ≤ length identifier + 36
   unfolding entry_line
-  entry_most v h =
-      by_bool (eqb v.state NOT_ADMITTED) (λ e. rw (e, entry_line) not_admitted_most)
-      (λ e. by_bool (eqb v.state OPEN) (λ f. rw (e, f, entry_line) (open_most v.replica h))
-      (λ f. rw (e, f, entry_line) (priced_most v.price v.replica h)))
+  entry_most v h = grind (arith, nat_tests, not_admitted_most, open_most v.replica h, priced_most v.price v.replica h)

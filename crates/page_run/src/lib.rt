@@ -3,12 +3,14 @@
 
 ghost use Rattle.std.specs.Prelude.{◌≡◌, true, ℕ, ◌*◌, ◌≤◌, ◌<◌, length, get_or};
 ghost use Rattle.text.specs.Text.{Written};
+ghost use Rattle.text.specs.Cursor.{Room, Writes};
 ghost use Rattle.validity.specs.Validity.{table_ok};
 ghost use Rattle.dispatcher.specs.Events.{bytes_most, events_in};
 ghost use Rattle.dispatcher.specs.Step.{run_of, answers_of};
 ghost use Rattle.page_run.specs.Run.{refusals_most, refusals, Listed};
 
 use table::Table;
+use text::Cursor;
 
 // The table after the events, and the position after the lines written.
 #[derive(Clone, Copy)]
@@ -17,23 +19,17 @@ pub struct Ran {
     pub length: usize,
 }
 
-// The lines of the events that were answered these numbers, from the front of the buffer on: one for each that was refused.
-fn put_refusals(numbers: &[u8], out: &mut [u8]) -> usize
+// The lines of the events that were answered these numbers: one for each that was refused.
+fn put_refusals(c: &mut Cursor, numbers: &[u8])
     requires by_index { (i : ℕ) → get_or numbers.now i 0 < 100 }
-    requires numbers_in_bounds { 23 * length numbers.now ≤ length out.old }
-    ensures { Written out.old 0 (refusals 1 numbers.now) out.new result }
+    requires numbers_in_bounds { Room c.old (23 * length numbers.now) }
+    ensures { Writes c.old (refusals 1 numbers.now) c.new }
 {
-    let n = numbers.len();
-    let mut at: usize = 0;
-    let mut k: usize = 0;
-    while k < n {
-        let number = numbers[k];
-        k += 1;
-        if number != 0 {
-            at = page_lines::put_event_refused(out, at, k as u64, number as u64);
+    for (k, number) in numbers.iter().enumerate() {
+        if *number != 0 {
+            page_lines::put_event_refused(c, k as u64 + 1, *number as u64);
         }
     }
-    at
 }
 
 // All events of s, and the lines of the refused ones from the front of the buffer on.
@@ -43,9 +39,14 @@ pub fn run(t: Table, s: &[u8], out: &mut [u8]) -> Ran
     ensures { Listed out.old 0 (refusals 1 (answers_of t (events_in s.now))) (run_of t (events_in s.now))
         out.new result }
 {
+    // room for as many events as a list may have, of which the first n are these: nothing is allocated
     let n = (s.len() + 2) / 3;
     let mut numbers = [0u8; 20000];
     let table = dispatcher::run(t, s, &mut numbers);
-    let length = put_refusals(&numbers[0..n], out);
-    Ran { table, length }
+    let mut c = Cursor::new(out, 0);
+    put_refusals(&mut c, &numbers[..n]);
+    Ran {
+        table,
+        length: c.at,
+    }
 }

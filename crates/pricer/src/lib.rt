@@ -44,11 +44,7 @@ pub struct FixedBond {
 pub fn with_terms(b: Bond, t: Terms) -> Bond
     ensures { result ≡ with_terms b t }
 {
-    Bond {
-        periods: b.periods,
-        payments: b.payments,
-        terms: t,
-    }
+    Bond { terms: t, ..b }
 }
 
 // The payments of a year as a number. Those that a book has are written out: where the processor converts them, a price waits for the one before it
@@ -70,10 +66,8 @@ pub fn price_zero(periods: u8, payments: u8, ytm: f64) -> f64
 {
     let d = 1.0 + ytm / yearly(payments);
     let mut p = 100.0;
-    let mut i: u8 = 0;
-    while i < periods {
+    for _i in 0..periods {
         p = p / d;
-        i += 1;
     }
     p
 }
@@ -84,32 +78,27 @@ pub fn price_fixed(b: FixedBond, payments: u8) -> f64
     let k = yearly(payments);
     let d = 1.0 + b.ytm / k;
     let h = b.coupon / k;
-    let n = b.periods;
     let mut p = 100.0;
-    let mut i: u8 = 0;
-    while i < n {
+    for _i in 0..b.periods {
         p = (p + h) / d;
-        i += 1;
     }
     p
 }
 
+#[tactic(auto, unfolding(crate::specs::Price::price_of))]
 pub fn price(b: Bond) -> f64
     ensures { result ≡ price_of b }
 {
-    let n = b.periods;
-    let k = b.payments;
-    let t = b.terms;
-    match t {
-        Terms::Zero(y) => price_zero(n, k, y),
-        Terms::Fixed(c, y) => price_fixed(
-            FixedBond {
-                periods: n,
-                coupon: c,
-                ytm: y,
-            },
-            k,
-        ),
+    match b.terms {
+        Terms::Zero(ytm) => price_zero(b.periods, b.payments, ytm),
+        Terms::Fixed(coupon, ytm) => {
+            let fixed = FixedBond {
+                periods: b.periods,
+                coupon,
+                ytm,
+            };
+            price_fixed(fixed, b.payments)
+        }
     }
 }
 
@@ -124,6 +113,7 @@ pub fn bits(x: f64) -> u64
     }
 }
 
+#[tactic(auto, unfolding(crate::specs::Price::price_bits))]
 pub fn price_bits(b: Bond) -> u64
     ensures { result ≡ price_bits b }
 {
@@ -158,11 +148,9 @@ fn terms_in_range(t: Terms) -> bool
 }
 
 // Whether a bond's periods, payments, coupon and yield lie in the ranges of the book.
+#[tactic(auto, unfolding(crate::specs::Range::in_range))]
 pub fn in_range(b: Bond) -> bool
     ensures { result ≡ in_range b }
 {
-    let n = b.periods;
-    let k = b.payments;
-    let t = b.terms;
-    (1 <= n) & (n <= 240) & payments_in_range(k) & terms_in_range(t)
+    (1 <= b.periods) & (b.periods <= 240) & payments_in_range(b.payments) & terms_in_range(b.terms)
 }

@@ -2,6 +2,7 @@
 use mathlib.Core.Path.{◌≡◌}
 use Prim.Native.Nat.{ℕ, ◌+◌, ◌*◌}
 use lib.Seq.{set-get_or}
+use Rattle.std.proofs.Common.{Option}
 use Rattle.table.specs.declared.Job.{Job}
 use Rattle.table.specs.declared.Machine.{Machine}
 use Rattle.table.specs.declared.Message.{Message}
@@ -22,30 +23,30 @@ module _ (t : Table) (m j : ℕ) where
   made_silent = rw (set-get_or t.jobs j no_job, same_number, set-get_or t.machines m no_machine, set-get_or t.pools (m * 64 + j) 0)
 
   -- a message alone
-  pub made_sent : (x : Message) → made t m j (record { job = job_at t j; machine = machine_at t m; cell = pool_at t m j; sent = x }) ≡ send_some t x
+  pub made_sent : (x : Option Message) → made t m j (record { job = job_at t j; machine = machine_at t m; cell = pool_at t m j; sent = x }) ≡ send_some t x
   unfolding made parts
   made_sent x = rw (set-get_or t.jobs j no_job, same_number, set-get_or t.machines m no_machine, set-get_or t.pools (m * 64 + j) 0)
 
   -- the job
-  pub made_job : (v : Job) (x : Message)
+  pub made_job : (v : Job) (x : Option Message)
       → made t m j (record { job = v; machine = machine_at t m; cell = pool_at t m j; sent = x }) ≡ send_some (with_job t j v) x
   unfolding made parts
   made_job v x = rw (set-get_or t.machines m no_machine, set-get_or t.pools (m * 64 + j) 0)
 
   -- the machine
-  pub made_machine : (n : Machine) (x : Message)
+  pub made_machine : (n : Machine) (x : Option Message)
       → made t m j (record { job = job_at t j; machine = n; cell = pool_at t m j; sent = x }) ≡ send_some (with_machine t m n) x
   unfolding made parts
   made_machine n x = rw (set-get_or t.jobs j no_job, same_number, set-get_or t.pools (m * 64 + j) 0)
 
   -- the machine and the cell
-  pub made_machine_cell : (n : Machine) (r : ℕ) (x : Message)
+  pub made_machine_cell : (n : Machine) (r : ℕ) (x : Option Message)
       → made t m j (record { job = job_at t j; machine = n; cell = r; sent = x }) ≡ send_some (with_machine (with_pool t m j r) m n) x
   unfolding made parts
   made_machine_cell n r x = rw (set-get_or t.jobs j no_job, same_number)
 
   -- the job and the cell
-  pub made_job_cell : (v : Job) (r : ℕ) (x : Message)
+  pub made_job_cell : (v : Job) (r : ℕ) (x : Option Message)
       → made t m j (record { job = v; machine = machine_at t m; cell = r; sent = x }) ≡ send_some (with_pool (with_job t j v) m j r) x
   unfolding made parts
   made_job_cell v r x = rw (set-get_or t.machines m no_machine)

@@ -1,9 +1,9 @@
 -- The parts of a table at a machine and a job, and a change of these parts made on the table: what ties a function of parts to document 01's
 -- definitions on tables. Definitions only.
-use Rattle.std.specs.Prelude.{cond, ℕ, eqb}
+use Rattle.std.specs.Prelude.{ℕ, Option, None, Some}
 use Rattle.table.specs.declared.Message.{Message}
 use Rattle.table.specs.declared.Table.{Table}
-use Rattle.table.specs.Views.{no_message, job_at, machine_at, pool_at, with_job, with_machine, with_pool}
+use Rattle.table.specs.Views.{job_at, machine_at, pool_at, with_job, with_machine, with_pool}
 use Rattle.table.specs.Messages.{send}
 use Rattle.protocol_change.specs.declared.Parts.{Parts}
 use Rattle.protocol_change.specs.declared.Change.{Change}
@@ -12,9 +12,10 @@ use Rattle.protocol_change.specs.declared.Change.{Change}
 unfoldable pub parts_at : Table → ℕ → ℕ → Parts
 parts_at t m j = record { job = job_at t j; machine = machine_at t m; cell = pool_at t m j }
 
--- a message is sent, where there is one: its kind is not 0
-unfoldable pub send_some : Table → Message → Table
-send_some t x = cond (eqb x.kind 0) t (send t x)
+-- a message is sent, where there is one
+unfoldable pub send_some : Table → Option Message → Table
+send_some t None = t
+send_some t (Some x) = send t x
 
 -- the change c is made on t, at machine m and job j
 unfoldable pub made : Table → ℕ → ℕ → Change → Table
@@ -22,4 +23,4 @@ made t m j c = send_some (with_pool (with_machine (with_job t j c.job) m c.machi
 
 -- nothing changes and nothing is sent
 unfoldable pub silent : Parts → Change
-silent p = record { job = p.job; machine = p.machine; cell = p.cell; sent = no_message }
+silent p = record { job = p.job; machine = p.machine; cell = p.cell; sent = None }

@@ -1,7 +1,7 @@
 // What an event of document 01 looks at and what it makes of it. An event of code 1 to 5 looks at one job, one machine and the cell of that job in the
 // pool of that machine, and at most one message, and it changes no more than these and the messages in flight. So the handlers and these events are
-// functions of parts: the parts in, a change out. Where the parts stand in the table, and making the change on it, are the matter of one loop
-// (crate `dispatcher`), which copies no table.
+// functions of parts: the parts in, a change out. Where the parts stand in the table, and making the change on it, are the matter of the
+// crate `dispatcher`, which copies no table.
 #![tactic(auto)]
 
 ghost use Rattle.std.specs.Prelude.{◌≡◌};
@@ -17,26 +17,24 @@ pub struct Parts {
     pub cell: u8,
 }
 
-// The same after an event, and the message that it sends; one of kind 0 is none.
+// The same after an event, and the message that it sends.
 #[derive(Clone, Copy)]
 pub struct Change {
     pub job: Job,
     pub machine: Machine,
     pub cell: u8,
-    pub sent: Message,
+    pub sent: Option<Message>,
 }
 
 // Nothing changes and nothing is sent.
+#[tactic(auto, unfolding(crate::specs::Change::silent))]
 pub fn silent(p: Parts) -> Change
     ensures { result ≡ silent p }
 {
-    let job = p.job;
-    let machine = p.machine;
-    let sent = table::NO_MESSAGE;
     Change {
-        job,
-        machine,
+        job: p.job,
+        machine: p.machine,
         cell: p.cell,
-        sent,
+        sent: None,
     }
 }

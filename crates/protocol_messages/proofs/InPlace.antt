@@ -1,11 +1,11 @@
 -- What the loop that moves messages up leaves, and the slot written after it, are a message taken off and one sent. Assumes nothing.
 use Prim.Native.Nat.{ℕ, ◌+◌, ◌-◌, ◌≤◌, ◌<◌}
 use mathlib.Core.Path.{◌≡◌, refl, sym, ap, ◌∙◌}
-use mathlib.Core.Bool.{true, not, true≢false}
 use mathlib.Core.List.{List, ◌++◌}
 use native.Mathlib.Omega.{arith}
 use borrow.Author.Tests.{ltb-true, ltb-false, lt-ltb, le-ltb}
 use lib.Dec.{eqb, ltb}
+use Rattle.std.proofs.Common.{Option, None, Some, unwrap_or}
 use lib.ListN.{length, get_or, take, drop, set}
 use lib.Seq.{set-get_or}
 use Rattle.lists.specs.Scan.{without}
@@ -34,26 +34,22 @@ moved_more t k i u e b c =
     ∙ ap (λ (l : List Message). with_messages t t.in_flight l) (shift_more no_message k t.messages i _ refl b c)
 
 -- what is written last, once those that stay have moved up: l at the slot after them
-abbrev pub settled : Table → ℕ → Message → Table
+abbrev pub settled : Table → ℕ → Option Message → Table
 settled t k l =
     with_messages t (counted (kept k t.in_flight) l)
-    (set (moved_up t k (kept k t.in_flight)).messages (kept k t.in_flight) l)
+    (set (moved_up t k (kept k t.in_flight)).messages (kept k t.in_flight) (unwrap_or l no_message))
 
--- a message of no kind is none; else it is stored where the machine lives
-sent_by : (P : Message → Table → Type 0) (u : Table) (x : Message)
-    → P no_message u → (not (eqb x.kind 0) ≡ true → P x (push u x)) → P (stored x (machine_at u x.to)) (send_some u x)
-unfolding stored send_some send
-sent_by P u x none some =
-    by_bool (eqb x.kind 0) (λ e. rw (e, stored, send_some) none)
-    (λ e. by_bool (eqb (machine_at u x.to).alive 1)
-    (λ f. rw (e, f, stored, send_some, send) (some (ap not e)))
-    (λ f. rw (e, f, stored, send_some, send) none))
+-- nothing is sent, or it is stored where the machine lives
+sent_by : (P : Option Message → Table → Type 0) (u : Table) (x : Option Message)
+    → P None u → ((m : Message) → P (Some m) (push u m)) → P (stored x u.machines) (send_some u x)
+unfolding stored send_some send machine_at
+sent_by P u None none some = none
+sent_by P u (Some m) none some =
+    by_bool (eqb (machine_at u m.to).alive 1) (λ f. rw (f, stored, send_some, send) (some m)) (λ f. rw (f, stored, send_some, send) none)
 
 -- what is stored nowhere changes nothing
-sent_none : (u : Table) (x : Message) → stored x (machine_at u x.to) ≡ no_message → u ≡ send_some u x
-sent_none u x =
-    sent_by (λ y v. y ≡ no_message → u ≡ v) u x (λ z. refl)
-    (λ g z. absurd (true≢false (sym g ∙ ap (λ (y : Message). not (eqb y.kind 0)) z)))
+sent_none : (u : Table) (x : Option Message) → stored x u.machines ≡ None → u ≡ send_some u x
+sent_none u x = sent_by (λ y v. y ≡ None → u ≡ v) u x (λ z. refl) (λ m z. absurd (cc))
 
 pub kept_none : (k n : ℕ) → n ≤ k → kept k n ≡ n
 unfolding kept
@@ -83,9 +79,9 @@ unfolding kept
 kept_full k n h b = by_bool (ltb k n) (λ e. let c : 128 ≤ n - 1 = rw e at b in absurd (omega arith)) (λ e. ltb-false _ _ e)
 
 -- the slots past those in flight are empty
-module _ (t : Table) (k : ℕ) (x : Message) (l : length t.messages ≡ 128) (h : t.in_flight ≤ 128)
+module _ (t : Table) (k : ℕ) (x : Option Message) (l : length t.messages ≡ 128) (h : t.in_flight ≤ 128)
     (p : (i : ℕ) → t.in_flight ≤ i → message_at t i ≡ no_message) where
-  taken_off_lem : k < t.in_flight → settled t k (stored x (machine_at t x.to)) ≡ send_some (remove_at t k) x
+  taken_off_lem : k < t.in_flight → settled t k (stored x t.machines) ≡ send_some (remove_at t k) x
   unfolding counted kept remove_at push parts
   taken_off_lem b =
       let n = t.in_flight - 1 in
@@ -95,11 +91,11 @@ module _ (t : Table) (k : ℕ) (x : Message) (l : length t.messages ≡ 128) (h 
       sent_by (λ y v. settled t k y ≡ v) (remove_at t k) x
       (ap (λ (j : ℕ). with_messages t j (set (take j (without k t.messages) ++ drop j t.messages) j no_message)) e
       ∙ ap (λ (y : List Message). with_messages t n y) (shift_off no_message k t.messages n m refl (omega arith) (omega arith) q))
-      (λ g.
-      ap (λ (j : ℕ). with_messages t (counted j x) (set (take j (without k t.messages) ++ drop j t.messages) j x)) e
-      ∙ rw g (ap (λ (y : List Message). with_messages t (n + 1) y) (shift_last no_message k t.messages n m x refl (omega arith) (omega arith) q)))
+      (λ w.
+      ap (λ (j : ℕ). with_messages t (j + 1) (set (take j (without k t.messages) ++ drop j t.messages) j w)) e
+      ∙ ap (λ (y : List Message). with_messages t (n + 1) y) (shift_last no_message k t.messages n m w refl (omega arith) (omega arith) q))
 
-  none_off : k ≡ t.in_flight → k < 128 → settled t k (stored x (machine_at t x.to)) ≡ send_some t x
+  none_off : k ≡ t.in_flight → k < 128 → settled t k (stored x t.machines) ≡ send_some t x
   unfolding counted push parts
   none_off b c =
       let e : kept k t.in_flight ≡ k = kept_none k t.in_flight (omega arith) ∙ sym b in
@@ -111,11 +107,12 @@ module _ (t : Table) (k : ℕ) (x : Message) (l : length t.messages ≡ 128) (h 
       ∙ ap (λ (y : Message). with_messages t k (set t.messages k y)) (sym z)
       ∙ ap (λ (y : List Message). with_messages t k y) (set-get_or t.messages k no_message)
       ∙ ap (λ (j : ℕ). with_messages t j t.messages) b)
-      (λ g.
-      ap (λ (j : ℕ). with_messages t (counted j x) (set (take j (without k t.messages) ++ drop j t.messages) j x)) e
-      ∙ rw g (ap (λ (y : List Message). with_messages t (k + 1) (set y k x)) m ∙ ap (λ (j : ℕ). with_messages t (j + 1) (set t.messages j x)) b))
+      (λ w.
+      ap (λ (j : ℕ). with_messages t (j + 1) (set (take j (without k t.messages) ++ drop j t.messages) j w)) e
+      ∙ ap (λ (y : List Message). with_messages t (k + 1) (set y k w)) m
+      ∙ ap (λ (j : ℕ). with_messages t (j + 1) (set t.messages j w)) b)
 
-  pub settled_is : k ≤ t.in_flight → kept k t.in_flight < 128 → settled t k (stored x (machine_at t x.to)) ≡ send_some (taken t k) x
+  pub settled_is : k ≤ t.in_flight → kept k t.in_flight < 128 → settled t k (stored x t.machines) ≡ send_some (taken t k) x
   unfolding taken
   settled_is b c =
       by_bool (ltb k t.in_flight)
@@ -123,14 +120,14 @@ module _ (t : Table) (k : ℕ) (x : Message) (l : length t.messages ≡ 128) (h 
       (λ e. let g = ltb-false _ _ e in let d = kept_none k t.in_flight g in rw (e, taken) (none_off (omega arith) (omega arith)))
 
   -- with no slot left nothing is stored, and nothing is written
-  pub settled_full : k ≡ t.in_flight → stored x (machine_at t x.to) ≡ no_message
-      → with_messages t (counted (kept k t.in_flight) (stored x (machine_at t x.to))) (moved_up t k (kept k t.in_flight)).messages
+  pub settled_full : k ≡ t.in_flight → stored x t.machines ≡ None
+      → with_messages t (counted (kept k t.in_flight) (stored x t.machines)) (moved_up t k (kept k t.in_flight)).messages
       ≡ send_some (taken t k) x
   unfolding taken counted parts
   settled_full b z =
       let e : kept k t.in_flight ≡ k = kept_none k t.in_flight (omega arith) ∙ sym b in
       let m : take k (without k t.messages) ++ drop k t.messages ≡ t.messages = sym (shift_none no_message k t.messages (omega arith)) in
-      ap (λ (y : Message). with_messages t (counted (kept k t.in_flight) y) (moved_up t k (kept k t.in_flight)).messages) z
+      ap (λ (y : Option Message). with_messages t (counted (kept k t.in_flight) y) (moved_up t k (kept k t.in_flight)).messages) z
       ∙ ap (λ (j : ℕ). with_messages t j (take j (without k t.messages) ++ drop j t.messages)) e
       ∙ ap (λ (y : List Message). with_messages t k y) m
       ∙ ap (λ (j : ℕ). with_messages t j t.messages) b

@@ -3,10 +3,9 @@
 // say. A death and a notice drop messages: `drop_to` and `drop_from` equal `keep_messages` of the crate `table`.
 #![tactic(auto)]
 
-ghost use Rattle.std.specs.Prelude.{◌≡◌, ◌≤◌};
+ghost use Rattle.std.specs.Prelude.{◌≡◌, ◌≤◌, Bool};
 ghost use Rattle.table.specs.Messages.{in_channel, keep_messages, not_to, not_from};
 ghost use Rattle.protocol_messages.specs.InPlace.{kept, stored, counted};
-ghost use Rattle.protocol_messages.specs.NotDropped.{not_dropped};
 
 use table::{Machine, Message, Table};
 
@@ -18,66 +17,55 @@ pub fn in_channel(m: Message, a: u8, b: u8) -> bool
 }
 
 // How many of the messages in flight stay where the one in a slot is taken off. There is none in a slot past them.
+#[tactic(auto, unfolding(crate::specs::InPlace::kept))]
 pub fn kept(slot: usize, used: usize) -> usize
     ensures { result ≡ kept slot used }
 {
-    if slot < used {
-        return used - 1;
-    }
-    used
+    if slot < used { used - 1 } else { used }
 }
 
-// What is stored of a message to a machine: "A message to a dead machine is stored nowhere."
-pub fn stored(m: Message, to: Machine) -> Message
-    ensures { result ≡ stored m to }
+// What is stored of what is sent to one of the machines: "A message to a dead machine is stored nowhere."
+#[tactic(auto, unfolding(crate::specs::InPlace::stored))]
+pub fn stored(sent: Option<Message>, machines: &[Machine; 16]) -> Option<Message>
+    ensures { result ≡ stored sent machines.now }
 {
-    if (m.kind != 0) & (to.alive == 1) {
-        return m;
+    let m = sent?;
+    match machines.get(m.to as usize) {
+        Some(to) if to.alive == 1 => Some(m),
+        _ => None,
     }
-    table::NO_MESSAGE
 }
 
 // How many are in flight with what is stored.
-pub fn counted(keep: usize, m: Message) -> u8
+#[tactic(auto, unfolding(crate::specs::InPlace::counted))]
+pub fn counted(keep: usize, m: Option<Message>) -> u8
     requires { keep ≤ 128 }
     ensures { result ≡ counted keep m }
 {
     let n = keep as u8;
-    if m.kind != 0 {
-        return n + 1;
-    }
-    n
+    if m.is_some() { n + 1 } else { n }
 }
 
-// Whether a message stays where those to a machine are dropped: those from one machine, or from any.
-fn not_dropped(m: Message, any: bool, from: u8, to: u8) -> bool
-    ensures { result ≡ not_dropped any from to m }
+// Only the messages that stay are in flight, in their order.
+fn keep<F: Fn(Message) -> bool>(t: Table, stays: F) -> Table
+    requires in_flight { t.in_flight ≤ 128 }
+    requires callable { F.IsAlwaysCallable stays }
+    ensures { (p : Message → Bool) → ((m : Message) (b : Bool) → F.post stays m b → b ≡ p m) → result ≡ keep_messages t p }
 {
-    !((any | (m.from == from)) & (m.to == to))
-}
-
-// The messages to a machine from one machine, or from any, are dropped; the others keep their order.
-fn drop(t: Table, any: bool, from: u8, to: u8) -> Table
-    requires { t.in_flight ≤ 128 }
-    ensures { result ≡ keep_messages t (not_dropped any from to) }
-{
-    let n = t.in_flight as usize;
-    let none = table::NO_MESSAGE;
-    let mut out = [none; 128];
-    let mut w: usize = 0;
-    let mut i: usize = 0;
-    while i < n {
-        let m = t.messages[i];
-        i += 1;
-        if not_dropped(m, any, from, to) {
-            out[w] = m;
+    // An array and how many of it are used: the form that the table has them in.
+    let mut out = [table::NO_MESSAGE; 128];
+    let mut w = 0;
+    for m in &t.messages[..t.in_flight as usize] {
+        if stays(*m) {
+            out[w] = *m;
             w += 1;
         }
     }
-    let mut u = t;
-    u.messages = out;
-    u.in_flight = w as u8;
-    u
+    Table {
+        messages: out,
+        in_flight: w as u8,
+        ..t
+    }
 }
 
 // "messages to it are dropped"
@@ -85,7 +73,7 @@ pub fn drop_to(t: Table, x: u8) -> Table
     requires { t.in_flight ≤ 128 }
     ensures { result ≡ keep_messages t (not_to x) }
 {
-    drop(t, true, 0, x)
+    keep(t, |m| m.to != x)
 }
 
 // "Undelivered messages from b to a are dropped."
@@ -93,5 +81,5 @@ pub fn drop_from(t: Table, b: u8, a: u8) -> Table
     requires { t.in_flight ≤ 128 }
     ensures { result ≡ keep_messages t (not_from b a) }
 {
-    drop(t, false, b, a)
+    keep(t, |m| !in_channel(m, b, a))
 }

@@ -3,34 +3,23 @@
 // is lent the pools, the definition in specs/Lowest.antt.
 #![tactic(auto)]
 
-ghost use Rattle.std.specs.Prelude.{◌≡◌, ◌<◌, max};
+ghost use Rattle.std.specs.Prelude.{◌≡◌, ◌<◌};
 ghost use Rattle.table.specs.Views.{job_at, machine_at, with_job};
 ghost use Rattle.table.specs.Pools.{enter, clear_pool, returned};
 ghost use Rattle.table.specs.Parts.{opened, OPEN};
 ghost use Rattle.protocol_pools.specs.Lowest.{lowest_in};
 
-use table::{Job, Table};
-
-// The larger of two replica numbers.
-pub fn larger(a: u8, b: u8) -> u8
-    ensures { result ≡ max a b }
-{
-    if a <= b {
-        return b;
-    }
-    a
-}
+use table::Table;
 
 // "Adding a copy to a pool keeps the larger replica number."
+#[tactic(auto, unfolding(table::specs::Pools::enter, table::specs::Views::parts))]
 fn enter(t: Table, m: usize, j: usize, r: u8) -> Table
     requires { (m < 16) × (j < 64) }
     ensures { result ≡ enter t m j r }
 {
     let mut u = t;
     let i = m * 64 + j;
-    let x = u.pools[i];
-    let y = larger(x, r);
-    u.pools[i] = y;
+    u.pools[i] = u.pools[i].max(r);
     u
 }
 
@@ -40,32 +29,22 @@ pub fn open_on_root(t: Table, j: usize, r: u8) -> Table
     ensures { result ≡ enter (with_job t j (opened r)) 0 j r }
 {
     let mut u = t;
-    u.jobs[j] = Job {
-        state: table::OPEN,
-        replica: r,
-        moving: 0,
-        holder: 0,
-        thief: 0,
-        price: 0,
-    };
+    u.jobs[j] = table::open_job(r);
     enter(u, 0, j, r)
 }
 
-// The lowest job of machine m's pool, or 64 where it is empty.
-pub fn lowest(pools: &[u8; 1024], m: usize) -> usize
+// The lowest job of machine m's pool, where it is not empty.
+pub fn lowest(pools: &[u8; 1024], m: usize) -> Option<u8>
     requires { m < 16 }
     ensures { result ≡ lowest_in pools.now m }
 {
     let base = m * 64;
-    let mut j: usize = 0;
-    while j < 64 {
-        let x = pools[base + j];
-        if x != 0 {
-            return j;
+    for j in 0..64u8 {
+        if pools[base + j as usize] != 0 {
+            return Some(j);
         }
-        j += 1;
     }
-    j
+    None
 }
 
 // Machine m's pool is cleared.
@@ -75,25 +54,21 @@ pub fn clear_pool(t: Table, m: usize) -> Table
 {
     let base = m * 64;
     let mut u = t;
-    let mut j: usize = 0;
-    while j < 64 {
+    for j in 0..64 {
         u.pools[base + j] = 0;
-        j += 1;
     }
     u
 }
 
 // The reserved copy of machine m returns to its pool.
+#[tactic(auto, unfolding(table::specs::Pools::returned, table::specs::Views::parts))]
 pub fn returned(t: Table, m: usize) -> Table
     requires { (m < 16) × ((machine_at t m).reserved_job < 64) }
     ensures { result ≡ returned t m }
 {
     let machines = t.machines;
-    let mut n = machines[m];
+    let n = machines[m];
     let mut u = enter(t, m, n.reserved_job as usize, n.reserved_replica);
-    n.reserved_job = 0;
-    n.reserved_replica = 0;
-    n.reserved_thief = 0;
-    u.machines[m] = n;
+    u.machines[m] = table::released(n);
     u
 }

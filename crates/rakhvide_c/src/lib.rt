@@ -2,7 +2,7 @@
 // Each function is one of the crates below under a plain name; no function asks anything of its numbers or bytes.
 #![tactic(auto)]
 
-ghost use Rattle.std.specs.Prelude.{◌≡◌, true, length, take};
+ghost use Rattle.std.specs.Prelude.{◌≡◌, true, length, take, is_some, unwrap_or};
 ghost use Rattle.std.specs.Float.{binary64};
 ghost use Rattle.std.specs.Float.Ieee.{to_bits};
 ghost use Rattle.isin.specs.Isin.{verdict_of};
@@ -15,7 +15,6 @@ ghost use Rattle.page.specs.Page.{events_of, printed_of, buffer_of, Reported};
 ghost use Rattle.snapshot.specs.Snapshot.{check_of, step_number, step_bytes, open_number, open_bytes, open_jobs_of};
 ghost use Rattle.rakhvide_c.specs.Terms.{term_bits};
 
-use book_term::Reading;
 use pricer::FixedBond;
 
 // 0 for an identifier that passes, 4 for its form, 5 for its check digit.
@@ -23,7 +22,7 @@ use pricer::FixedBond;
 pub extern "C" fn rakhvide_identifier(s: &[u8]) -> u8
     ensures { result ≡ verdict_of s.now }
 {
-    isin::verdict(s)
+    refusal::answer(isin::verdict(s))
 }
 
 // The number of a book's refusal, or 0.
@@ -31,7 +30,7 @@ pub extern "C" fn rakhvide_identifier(s: &[u8]) -> u8
 pub extern "C" fn rakhvide_book(book: &[u8]) -> u8
     ensures { result ≡ book_verdict book.now }
 {
-    book::verdict(book)
+    refusal::answer(book::verdict(book))
 }
 
 // Adds an entry to the book in the first `count` bytes of the buffer: 0, or the number of a refusal, which leaves the buffer as it was.
@@ -45,7 +44,7 @@ pub extern "C" fn rakhvide_add(
     ensures value { result ≡ add_number buffer.old count identifier.now term.now }
     ensures buffer_after { buffer.new ≡ add_bytes buffer.old count identifier.now term.now }
 {
-    book_writer::add(buffer, count, identifier, term)
+    refusal::answer(book_writer::add(buffer, count, identifier, term))
 }
 
 // Writes the events of the run that copies most, with so many machines and deaths, to the front of the buffer: 0, or the number of a refusal, which
@@ -55,39 +54,22 @@ pub extern "C" fn rakhvide_worst_run(machines: u64, deaths: u64, buffer: &mut [u
     ensures value { result ≡ worst_number machines deaths (length buffer.old) }
     ensures buffer_after { buffer.new ≡ worst_buffer machines deaths buffer.old }
 {
-    worst_run::write(machines, deaths, buffer)
-}
-
-// 0 for a term that was read, 7 for one outside the rules.
-fn number_of(r: Reading) -> u8
-    ensures { result ≡ term_number r }
-{
-    match r {
-        Reading::Faulty => 7,
-        Reading::Valid(_) => 0,
-    }
-}
-
-// The bits of the price of a term that was read; for one outside the rules, those that were there.
-#[tactic(auto, unfolding(crate::specs::Terms::term_bits))]
-fn bits_of(r: Reading, old: u64) -> u64
-    ensures { result ≡ term_bits r old }
-{
-    match r {
-        Reading::Faulty => old,
-        Reading::Valid(b) => pricer::price_bits(b),
-    }
+    refusal::answer(worst_run::write(machines, deaths, buffer))
 }
 
 // 0 and the bits of the price of a term's bond; or 7, and the bits are left as they were.
+#[tactic(auto, unfolding(crate::specs::Terms::term_bits))]
 #[unsafe(no_mangle)]
 pub extern "C" fn rakhvide_term(term: &[u8], bits: &mut u64) -> u8
     ensures value { result ≡ term_number (term_of term.now) }
     ensures bits_after { bits.new ≡ term_bits (term_of term.now) bits.old }
 {
-    let r = book_term::read(term);
-    *bits = bits_of(r, *bits);
-    number_of(r)
+    let (number, after) = match book_term::read(term) {
+        Some(b) => (0, pricer::price_bits(b)),
+        None => (7, *bits),
+    };
+    *bits = after;
+    number
 }
 
 // The bits of a zero-coupon bond's price.
@@ -120,15 +102,15 @@ pub extern "C" fn rakhvide_page(
     out: &mut [u8],
     length: &mut usize,
 ) -> bool
-    ensures value { result ≡ (printed_of book.now events.now out.old).written }
-    ensures length_after { length.new ≡ (printed_of book.now events.now out.old).length }
+    ensures value { result ≡ is_some (printed_of book.now events.now out.old) }
+    ensures length_after { length.new ≡ unwrap_or (printed_of book.now events.now out.old) 0 }
     ensures out_after { out.new ≡ buffer_of book.now events.now out.old }
     ensures reported { book_verdict book.now ≡ 0 → result ≡ true
         → Reported book.now (events_of events.now) (take length.new out.new) }
 {
     let printed = page::page(book, events, out);
-    *length = printed.length;
-    printed.written
+    *length = printed.unwrap_or(0);
+    printed.is_some()
 }
 
 // Opens a book into the bytes of a snapshot: the book's number, 9 for another length, or 0 and the fresh table.
@@ -137,7 +119,7 @@ pub extern "C" fn rakhvide_open(book: &[u8], table: &mut [u8]) -> u8
     ensures value { result ≡ open_number book.now table.old }
     ensures table_after { table.new ≡ open_bytes book.now table.old }
 {
-    snapshot::open(book, table)
+    refusal::answer(snapshot::open(book, table))
 }
 
 // Check 9 of a snapshot: 0 or 9.
@@ -145,7 +127,7 @@ pub extern "C" fn rakhvide_open(book: &[u8], table: &mut [u8]) -> u8
 pub extern "C" fn rakhvide_check(table: &[u8]) -> u8
     ensures { result ≡ check_of table.now }
 {
-    snapshot::check(table)
+    refusal::answer(snapshot::check(table))
 }
 
 // One event on a snapshot: its number, and where it is 0 the table after it.
@@ -154,7 +136,7 @@ pub extern "C" fn rakhvide_step(table: &mut [u8], event: &[u8]) -> u8
     ensures value { result ≡ step_number table.old event.now }
     ensures table_after { table.new ≡ step_bytes table.old event.now }
 {
-    snapshot::step(table, event)
+    refusal::answer(snapshot::step(table, event))
 }
 
 // How many jobs are open, as a snapshot keeps it: one byte is read. 255 for bytes of another length.
@@ -162,5 +144,5 @@ pub extern "C" fn rakhvide_step(table: &mut [u8], event: &[u8]) -> u8
 pub extern "C" fn rakhvide_open_jobs(table: &[u8]) -> u8
     ensures { result ≡ open_jobs_of table.now }
 {
-    snapshot::open_jobs(table)
+    snapshot::open_jobs(table).unwrap_or(255)
 }

@@ -63,6 +63,7 @@ fn print_page_of(rt: &(impl Print + Eprint), book: &[u8], events: &[u8]) {
 // An accepted book has at most 4 + 31 * 64 = 1,988 bytes. Of a longer file one byte more is read: 1 asks for fewer than 4 bytes and 2 looks at the
 // first 4 only, and any length above 1,988 differs from 4 + 31n, which is 3, so what was read has the number of the whole file.
 pub fn print_page(rt: &(impl Files + Print + Eprint)) {
+    // room for the longest of each, and how much was read: nothing is allocated
     let mut book = [0u8; 1989];
     let n = load(rt, "book.bin", &mut book);
     let mut events = [0u8; page::BYTES_MOST];

@@ -8,7 +8,6 @@ use lib.ListN.{length, get_or, drop, set, length-append}
 use lib.Seq.{take_at, drop_at, drop-drop}
 use Rattle.lists.proofs.Scans.{length_tabulate}
 use Rattle.text.specs.Text.{over, joined}
-use Rattle.table.specs.declared.Answer.{Answer}
 use Rattle.table.specs.declared.Table.{Table}
 use Rattle.table.specs.Views.{no_job, no_machine, no_message, past_bond, message_at}
 use Rattle.table.proofs.Long.{Long}
@@ -18,11 +17,12 @@ use Rattle.validity.specs.Validity.{table_ok}
 use Rattle.dispatcher.specs.Step.{step_of}
 use Rattle.dispatcher.proofs.Fixed.{Fixed, fixed_step, step_bonds}
 use Rattle.dispatcher.proofs.Preserved.{step_sized, step_ok}
-use Rattle.dispatcher.proofs.Ready.{passed_sized, empty_past}
+use Rattle.dispatcher.specs.Apply.{Passed}
+use Rattle.dispatcher.proofs.Ready.{passed_sized, passed, empty_past}
 use Rattle.snapshot_read.specs.Layout.{jobs_start, bonds_from, jobs_from, machines_from, told_from, pools_from, messages_from, decodable, decode}
 use Rattle.snapshot_write.specs.Bytes.{message_bytes, bonds_bytes, messages_bytes, entries_bytes, machine_state_bytes, numbers_bytes, flight_bytes}
 use Rattle.snapshot_write.specs.Bytes.{encode}
-use Rattle.snapshot_write.proofs.Lengths.{length_bonds, changes_to, length_changes}
+use Rattle.snapshot_write.proofs.Lengths.{joined_same, length_bonds, changes_to, length_changes}
 use Rattle.snapshot.proofs.Parts.{Small}
 use Rattle.snapshot.proofs.Same.{same_bytes_lem}
 
@@ -36,11 +36,6 @@ split f n (suc k) =
     ap (joined f) e
     ∙ ap (λ (x : List ℕ). x ++ f (n + k)) (split f n k)
     ∙ append_assoc (joined f n) (joined (λ i. f (n + i)) k) (f (n + k))
-
-joined_same : (f g : ℕ → List ℕ) (k : ℕ) → ((i : ℕ) → f i ≡ g i) → joined f k ≡ joined g k
-unfolding joined
-joined_same f g zero h = refl
-joined_same f g (suc k) h = ap (λ (x : List ℕ). x ++ f k) (joined_same f g k h) ∙ ap (λ (x : List ℕ). joined g k ++ x) (h k)
 
 -- a middle that is written over by one of its length
 over_middle : (a w v r : List ℕ) → length w ≡ length v → over (a ++ (w ++ r)) (length a) v ≡ a ++ (v ++ r)
@@ -80,7 +75,7 @@ module _ (t u : Table) (n : ℕ) (h : n ≤ 128) (lt : Long t) (lu : Long u) whe
   changed b m =
       let k = u.machine_count in
       let w : length (changes_to t n) ≡ length (changes_to u n) = length_changes t n lt ∙ sym (length_changes u n lu) in
-      let r : rest t n ≡ rest u n = joined_same _ _ (128 - n) (λ i. ap message_bytes (m (n + i) (omega arith))) in
+      let r : rest t n ≡ rest u n = joined_same _ _ (128 - n) (λ i _. ap message_bytes (m (n + i) (omega arith))) in
       ap (λ (x : List ℕ). over (set x 0 k) jobs_start (changes_to u n)) (whole t n h)
       ∙ ap (λ (i : ℕ). over (before k t ++ (changes_to t n ++ rest t n)) i (changes_to u n)) (sym (before_length k t))
       ∙ over_middle (before k t) (changes_to t n) (changes_to u n) (rest t n) w
@@ -153,12 +148,16 @@ module _ (s e : List ℕ) (small : Small s) (f : decodable s ≡ true) (ok : tab
       (λ i k. empty_past (decode s) sized_from ok i (omega arith)
       ∙ sym (empty_past u sized_after (step_ok (decode s) e sized_from ok) i (omega arith)))
 
--- the same of the step's answer a on the table t that the bytes s stand for
-module _ (s e : List ℕ) (t : Table) (a : Answer) (f : decodable s ≡ true) (r : t ≡ decode s) (q : a ≡ step_of t e) (small : Small s)
-    (ok : table_ok t ≡ true) where
-  pub slots_most : (t.in_flight ≤ 128) × (a.table.in_flight ≤ 128)
+-- a table that was read is one that an event may be on
+pub passed_from : (s : List ℕ) (t : Table) → t ≡ decode s → table_ok t ≡ true → Passed t
+passed_from s t r ok = passed t (passed_sized t (rw r (long_from s)) ok) ok
+
+-- the same of the table u that the event makes of the table t, for which the bytes s stand
+module _ (s e : List ℕ) (t u : Table) (f : decodable s ≡ true) (r : t ≡ decode s) (ok : table_ok t ≡ true) (q : u ≡ (step_of t e).table)
+    (small : Small s) where
+  pub slots_most : (t.in_flight ≤ 128) × (u.in_flight ≤ 128)
   slots_most = let o : table_ok (decode s) ≡ true = rw r at ok in rw (q, r) (used_from s e small f o, used_after s e small f o)
 
-  pub changes_all : (n : ℕ) → n ≤ 128 → t.in_flight ≤ n → a.table.in_flight ≤ n
-      → over (set s 0 a.table.machine_count) jobs_start (changes_to a.table n) ≡ encode a.table
+  pub changes_all : (n : ℕ) → n ≤ 128 → t.in_flight ≤ n → u.in_flight ≤ n
+      → over (set s 0 u.machine_count) jobs_start (changes_to u n) ≡ encode u
   changes_all n h x y = rw (q, r) (stepped s e small f (rw r at ok) n h (rw r at x) (rw (q, r) at y))

@@ -2,83 +2,75 @@
 // asked how many jobs are open.
 #![tactic(auto)]
 
-ghost use Rattle.std.specs.Prelude.{◌≡◌, ◌≤◌};
+ghost use Rattle.std.specs.Prelude.{◌≡◌, ◌≤◌, ◌↔◌, true, length, IfOk, IsSome, unwrap_or};
+ghost use Rattle.refusal.specs.Numbers.{answer_of};
+ghost use Rattle.validity.specs.Validity.{table_ok};
+ghost use Rattle.snapshot_read.specs.Layout.{table_size, decodable, decode};
 ghost use Rattle.snapshot.specs.Snapshot.{check_of, step_number, step_bytes, open_number, open_bytes, open_jobs_of};
 
-// 0 for the bytes of a table that passes check 9, else 9.
-pub fn check(table: &[u8]) -> u8
-    ensures { result ≡ check_of table.now }
+use refusal::Refusal;
+use table::Table;
+
+// The table of the bytes, where they are those of one that passes check 9.
+#[tactic(auto, using(crate::proofs::Answers::decodable_length), unfolding(crate::specs::Snapshot::check_of))]
+fn read(bytes: &[u8]) -> Result<Table, Refusal>
+    ensures number { answer_of result ≡ check_of bytes.now }
+    ensures table { IfOk result (λ t. (decodable bytes.now ≡ true) × (t ≡ decode bytes.now) × (table_ok t ≡ true)) }
 {
-    if !snapshot_read::decodable(table) {
-        return 9;
+    if !snapshot_read::decodable(bytes) {
+        return Err(Refusal::TableOutOfOrder);
     }
-    if !validity::table_ok(snapshot_read::decode(table)) {
-        return 9;
+    let t = snapshot_read::decode(bytes);
+    if !validity::table_ok(t) {
+        return Err(Refusal::TableOutOfOrder);
     }
-    0
+    Ok(t)
 }
 
-// How many slots an event may change, of those in flight before it and after it.
-fn slots(before: u8, after: u8) -> usize
-    requires { (before ≤ 128) × (after ≤ 128) }
-    ensures { (result ≤ 128) × (before ≤ result) × (after ≤ result) }
+// Check 9 of the bytes.
+pub fn check(table: &[u8]) -> Result<(), Refusal>
+    ensures { answer_of result ≡ check_of table.now }
 {
-    if before < after {
-        return after as usize;
-    }
-    before as usize
+    read(table)?;
+    Ok(())
 }
 
-// One event on a snapshot: its number, and the bytes of the table after it where the number is 0. What no event changes is not written again.
-pub fn step(table: &mut [u8], event: &[u8]) -> u8
-    ensures value { result ≡ step_number table.old event.now }
+// One event on a snapshot: the bytes of the table after it, or its refusal. What no event changes is not written again.
+pub fn step(table: &mut [u8], event: &[u8]) -> Result<(), Refusal>
+    ensures value { answer_of result ≡ step_number table.old event.now }
     ensures table_after { table.new ≡ step_bytes table.old event.now }
 {
-    if !snapshot_read::decodable(&table[..]) {
-        return 9;
-    }
-    let t = snapshot_read::decode(&table[..]);
-    if !validity::table_ok(t) {
-        return 9;
-    }
-    if event.len() < 3 {
-        return 10;
-    }
-    let mut numbers = [0u8; 1];
-    let after = dispatcher::run(t, &event[0..3], &mut numbers);
-    let number = numbers[0];
-    if number != 0 {
-        return number;
-    }
-    let n = slots(t.in_flight, after.in_flight);
-    snapshot_write::put_changes(after, n, table);
-    0
+    let mut t = read(&table[..])?;
+    let before = t.in_flight;
+    dispatcher::apply(&mut t, event)?;
+    let n = before.max(t.in_flight) as usize;
+    snapshot_write::put_changes(&t, n, table);
+    Ok(())
 }
 
-// The number of a book, and 9 for a buffer of another length than a snapshot's; where it is 0, the bytes of the fresh table.
-pub fn open(book: &[u8], table: &mut [u8]) -> u8
-    ensures value { result ≡ open_number book.now table.old }
+// Opens a book into a buffer of a snapshot's length: the bytes of the fresh table, or the refusal of the book, or that of bytes that are no table.
+#[tactic(auto, using(refusal::proofs::Numbers::number_positive), unfolding(crate::specs::Snapshot::open_number, crate::specs::Snapshot::open_bytes))]
+pub fn open(book: &[u8], table: &mut [u8]) -> Result<(), Refusal>
+    ensures value { answer_of result ≡ open_number book.now table.old }
     ensures table_after { table.new ≡ open_bytes book.now table.old }
 {
-    let opened = table_opening::open(book);
-    let verdict = opened.number;
-    if verdict != 0 {
-        return verdict;
-    }
+    book::verdict(book)?;
     if table.len() != snapshot_read::TABLE_SIZE {
-        return 9;
+        return Err(Refusal::TableOutOfOrder);
     }
-    let fresh = opened.table;
-    snapshot_write::encode(fresh, table);
-    0
+    snapshot_write::encode(&table_opening::fresh(book), table);
+    Ok(())
 }
 
-// How many jobs are open: the number that the bytes keep is read, and nothing else of them. 255 where they have another length than a snapshot.
-pub fn open_jobs(table: &[u8]) -> u8
-    ensures { result ≡ open_jobs_of table.now }
+// How many jobs are open: the number that the bytes keep is read, and nothing else of them. None where they have another length than a snapshot.
+#[tactic(auto, unfolding(crate::specs::Snapshot::open_jobs_of))]
+pub fn open_jobs(table: &[u8]) -> Option<u8>
+    ensures value { unwrap_or result 255 ≡ open_jobs_of table.now }
+    ensures kept { IsSome result ↔ length table.now ≡ table_size }
 {
     if table.len() == snapshot_read::TABLE_SIZE {
-        return table[snapshot_read::OPEN_START];
+        Some(table[snapshot_read::OPEN_START])
+    } else {
+        None
     }
-    255
 }

@@ -1,4 +1,5 @@
 -- Which tables can be encoded: that of any bytes, the fresh table of a book, and after an event any that could be before it. Assumes nothing.
+use Rattle.std.proofs.Common.{Option, None, Some}
 use Prim.Native.Nat.{ℕ, ◌+◌, ◌<◌}
 use mathlib.Core.Path.{◌≡◌, sym, ap, ◌∙◌, subst}
 use mathlib.Core.Bool.{true}
@@ -16,8 +17,6 @@ use Rattle.pricer.specs.declared.Bond.{Bond}
 use Rattle.pricer.specs.declared.Terms.TheVariants.{Zero, Fixed}
 use Rattle.pricer.specs.Range.{in_range}
 use Rattle.book_term.specs.Term.{float_of, checked, term_from, bare_bond, term_of}
-use Rattle.book_term.specs.declared.Reading.{Reading}
-use Rattle.book_term.specs.declared.Reading.TheVariants.{Faulty, Valid}
 use Rattle.book.specs.Book.{term_at}
 use Rattle.pricer.specs.Bonds.{no_bond, with_terms}
 use Rattle.book.specs.Parts.{entry_count_of, bond_in, term_bond_at, bond_of}
@@ -60,24 +59,24 @@ rates_none : RatesFit no_bond.terms
 unfolding fits
 rates_none = tt
 
-abbrev Fit : Reading → Type 0
+abbrev Fit : Option Bond → Type 0
 Fit r = RatesFit (bond_in r).terms
 
 rates_checked : (b : Bond) → RatesFit b.terms → Fit (checked b)
 unfolding checked
-rates_checked b f = cond_elim Fit (in_range b) (Valid b) Faulty f rates_none
+rates_checked b f = cond_elim Fit (in_range b) (Some b) None f rates_none
 
 rates_term : (k : ℕ) (b : Bond) (c y : ℕ) → Fit (term_from k b c y)
 unfolding term_from
 rates_term k b c y =
     cond_elim Fit (eqb k 1) _ _
-    (cond_elim Fit (eqb c 0) _ Faulty (rates_checked (with_terms b (Zero (float_of y))) (of_bits-fits binary64 y)) rates_none)
-    (cond_elim Fit (eqb k 2) _ Faulty (rates_checked (with_terms b (Fixed (float_of c) (float_of y))) (of_bits-fits binary64 c, of_bits-fits binary64 y))
+    (cond_elim Fit (eqb c 0) _ None (rates_checked (with_terms b (Zero (float_of y))) (of_bits-fits binary64 y)) rates_none)
+    (cond_elim Fit (eqb k 2) _ None (rates_checked (with_terms b (Fixed (float_of c) (float_of y))) (of_bits-fits binary64 c, of_bits-fits binary64 y))
     rates_none)
 
 rates_of : (s : List ℕ) → Fit (term_of s)
 unfolding term_of
-rates_of s = cond_elim Fit (eqb (length s) 19) _ Faulty (rates_term (get_or s 0 0) (bare_bond s) (le64 s 3) (le64 s 11)) rates_none
+rates_of s = cond_elim Fit (eqb (length s) 19) _ None (rates_term (get_or s 0 0) (bare_bond s) (le64 s 3) (le64 s 11)) rates_none
 
 rates_book : (s : List ℕ) (i : ℕ) → RatesFit (bond_of s i).terms
 unfolding bond_of term_bond_at

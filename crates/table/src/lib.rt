@@ -1,16 +1,17 @@
-// The table: one struct with flat arrays for bonds, jobs, machines, pools and messages. It is passed and returned by value.
-// The compiler copies a parameter that is indexed, whole: a function that reads one array often takes it into a variable first, and one that writes the
-// table, the table.
+// The table: one struct with flat arrays for bonds, jobs, machines, pools and messages. It is passed and returned by value, and
+// lent where it is looked over or changed in place. The compiler copies a parameter that is indexed, whole: a function that takes the table and writes it
+// takes it into a variable first.
 // What each field holds is listed at the head of specs/Views.antt. What is unused is 0 throughout.
 #![tactic(auto)]
 
 ghost use Rattle.std.specs.Prelude.{◌≡◌, ◌≤◌, ◌<◌};
 ghost use Rattle.table.specs.States.{OPEN, opens, open_after};
 ghost use Rattle.table.specs.Views.{idle_machine, refuse};
+ghost use Rattle.table.specs.Parts.{release, opened};
 
 use pricer::Bond;
 
-#[derive(Clone, Copy)]
+#[derive(Clone, Copy, PartialEq, Eq, Debug)]
 pub struct Job {
     pub state: u8,
     pub replica: u8,
@@ -20,7 +21,7 @@ pub struct Job {
     pub price: u64,
 }
 
-#[derive(Clone, Copy)]
+#[derive(Clone, Copy, PartialEq, Eq, Debug)]
 pub struct Machine {
     pub alive: u8,
     pub reserved_job: u8,
@@ -31,7 +32,7 @@ pub struct Machine {
     pub waits: u8,
 }
 
-#[derive(Clone, Copy)]
+#[derive(Clone, Copy, PartialEq, Eq, Debug)]
 pub struct Message {
     pub kind: u8,
     pub from: u8,
@@ -56,7 +57,8 @@ pub struct Table {
     pub open_jobs: u8,
 }
 
-// A number, 0 or that of the refusal, beside the table.
+// A number, 0 or that of the refusal, beside the table: what document 01's definitions of opening, of an event and of a step give (`open_of`, `event_of`,
+// `step_of`). Functions answer a Result; `opened` and `answered` say which of these it is.
 #[derive(Clone, Copy)]
 pub struct Answer {
     pub number: u8,
@@ -73,7 +75,8 @@ pub fn refuse(number: u8, t: Table) -> Answer
     }
 }
 
-// The states of a job.
+// The states of a job, and below the kinds of a message. They are numbers and not an enum: check 9 is asked about a table of any bytes, and the bytes are
+// the layout of document 01.
 pub const NOT_ADMITTED: u8 = 0;
 
 pub const OPEN: u8 = 1;
@@ -81,16 +84,15 @@ pub const OPEN: u8 = 1;
 pub const PRICED: u8 = 2;
 
 // What a job in this state adds to the number of open jobs.
+#[tactic(auto, unfolding(crate::specs::States::opens))]
 fn opens(state: u8) -> u8
     ensures { result ≡ opens state }
 {
-    if state == OPEN {
-        return 1;
-    }
-    0
+    u8::from(state == OPEN)
 }
 
 // "The table keeps the number of open jobs": it was n, and one job's state was `was` and is `is`.
+#[tactic(auto, using(crate::proofs::States::opens_most, crate::proofs::States::opens_within), unfolding(crate::specs::States::open_after))]
 pub fn open_after(n: u8, was: u8, is: u8) -> u8
     requires { (n < 255) × (was ≡ OPEN → 1 ≤ n) }
     ensures { result ≡ open_after n was is }
@@ -98,18 +100,62 @@ pub fn open_after(n: u8, was: u8, is: u8) -> u8
     n + opens(is) - opens(was)
 }
 
+// What stands where no job is admitted.
+pub const NO_JOB: Job = Job {
+    state: NOT_ADMITTED,
+    replica: 0,
+    moving: 0,
+    holder: 0,
+    thief: 0,
+    price: 0,
+};
+
+// What stands past the last machine, and what is left of a dead one.
+pub const NO_MACHINE: Machine = Machine {
+    alive: 0,
+    reserved_job: 0,
+    reserved_replica: 0,
+    reserved_thief: 0,
+    running_job: 0,
+    running_replica: 0,
+    waits: 0,
+};
+
 // A machine with no copy and no wait, of which alive says whether it is.
 pub fn idle_machine(alive: u8) -> Machine
     ensures { result ≡ idle_machine alive }
 {
     Machine {
         alive,
+        ..NO_MACHINE
+    }
+}
+
+// A machine whose reserved copy is gone.
+#[tactic(auto, unfolding(crate::specs::Parts::release))]
+pub fn released(n: Machine) -> Machine
+    ensures { result ≡ release n }
+{
+    Machine {
         reserved_job: 0,
         reserved_replica: 0,
         reserved_thief: 0,
-        running_job: 0,
-        running_replica: 0,
-        waits: 0,
+        ..n
+    }
+}
+
+// A job that is open, with this replica number, on the root.
+#[tactic(auto, unfolding(crate::specs::Parts::opened))]
+pub fn open_job(replica: u8) -> Job
+    ensures { result ≡ opened replica }
+{
+    Job {
+        state: OPEN,
+        replica,
+        moving: 0,
+        holder: 0,
+        thief: 0,
+        price: 0,
     }
 }
 

@@ -1,24 +1,23 @@
 -- What the views of a fresh table show: its bonds are the book's, its machines are alive, and nothing has happened in it; and what opening answers.
 -- Assumes nothing.
 use Prim.Native.Nat.{ℕ, ◌+◌, ◌*◌, ◌≤◌, ◌<◌}
-use mathlib.Core.Path.{◌≡◌, refl, sym, ◌∙◌}
+use mathlib.Core.Path.{◌≡◌, refl, sym}
 use mathlib.Core.List.{List, []}
 use native.Mathlib.Omega.{arith}
-use borrow.Author.Tests.{eq-eqb, eqb-true, ltb-true, ltb-false}
-use lib.Dec.{eqb, ltb}
+use borrow.Author.Tests.{eq-eqb, eqb-true}
+use lib.Dec.{eqb}
 use lib.ListN.{length-replicate}
 use Rattle.lists.specs.Scan.{pad_to, tabulate}
 use Rattle.lists.proofs.Scans.{length_pad, length_tabulate, pad_at, pad_past}
 use Rattle.lists.proofs.Cases.{by_bool}
 use Rattle.lists.proofs.Count.{get_d_same}
 use Rattle.book.specs.Book.{book_verdict}
-use Rattle.pricer.specs.Bonds.{no_bond}
 use Rattle.book.specs.Parts.{machine_count_of, entry_count_of, bond_of}
-use Rattle.book.proofs.Accepted.{bond_past}
 use Rattle.table.specs.Views.{no_job, idle_machine, no_machine, no_message, past_bond, bond_at, job_at, machine_at, pool_at, told_at, flight}
 use Rattle.table.proofs.Views.{Sized}
 use Rattle.table.proofs.Messages.{Padded}
-use Rattle.table_opening.specs.Opening.{blank, bonds_of, machines_of, fresh_of, open_of}
+use Rattle.table_opening.specs.Opening.{blank, machines_of, fresh_of, open_of}
+use Rattle.table_opening.proofs.Entries.{bonds_at}
 use Rattle.table_opening.proofs.Counts.{machine_count_most}
 
 module _ (s : List ℕ) where
@@ -51,12 +50,8 @@ module _ (s : List ℕ) where
   open_fresh = refl
 
   pub bond_fresh : (j : ℕ) → j < 64 → bond_at (fresh_of s) j ≡ bond_of s j
-  unfolding fresh_of blank bonds_of bond_at
-  bond_fresh j h =
-      let n = entry_count_of s in
-      by_bool (ltb j n)
-      (λ e. pad_at (bond_of s) 64 no_bond n j past_bond (ltb-true j n e))
-      (λ e. let l = ltb-false j n e in pad_past (bond_of s) 64 no_bond n j past_bond l h ∙ bond_past s j l)
+  unfolding fresh_of blank bond_at
+  bond_fresh j h = bonds_at s j past_bond h
 
   pub job_fresh : (j : ℕ) → job_at (fresh_of s) j ≡ no_job
   unfolding fresh_of blank job_at

@@ -1,7 +1,9 @@
 -- Document 01, "The table": the table opened from a book. Definitions only.
-use Rattle.std.specs.Prelude.{ℕ, cond, List, eqb, replicate}
+use Rattle.std.specs.Prelude.{ℕ, cond, List, eqb, replicate, Result, Ok, Err}
 use Rattle.lists.specs.Scan.{pad_to, tabulate}
 use Rattle.pricer.specs.declared.Bond.{Bond}
+use Rattle.refusal.specs.declared.Refusal.{Refusal}
+use Rattle.refusal.specs.Numbers.{number_of}
 use Rattle.book.specs.Book.{book_verdict}
 use Rattle.pricer.specs.Bonds.{no_bond}
 use Rattle.book.specs.Parts.{machine_count_of, entry_count_of, bond_of}
@@ -45,3 +47,8 @@ no_table = blank 0 0 (replicate 64 no_bond) (replicate 16 no_machine)
 -- 0 and the fresh table, or "its own number" and no table
 unfoldable pub open_of : List ℕ → Answer
 open_of s = cond (eqb (book_verdict s) 0) (refuse 0 (fresh_of s)) (refuse (book_verdict s) no_table)
+
+-- the number and the table of what opening answers
+abbrev pub opened : Result Table Refusal → Answer
+opened (Ok t) = refuse 0 t
+opened (Err r) = refuse (number_of r) no_table

@@ -1,14 +1,15 @@
-// Opening a book: its number, beside the fresh table where it is accepted.
+// Opening a book: the fresh table where it is accepted, else its refusal.
 #![tactic(auto)]
 
 ghost use Rattle.std.specs.Prelude.{◌≡◌, ◌≤◌, replicate};
 ghost use Rattle.lists.specs.Scan.{up_to};
 ghost use Rattle.pricer.specs.Bonds.{no_bond};
 ghost use Rattle.table.specs.Views.{idle_machine, with_machine};
-ghost use Rattle.table_opening.specs.Opening.{blank, bonds_of, fresh_of, no_table, open_of};
+ghost use Rattle.table_opening.specs.Opening.{blank, bonds_of, fresh_of, open_of, opened};
 
 use pricer::Bond;
-use table::{Answer, Job, Machine, Message, Table};
+use refusal::Refusal;
+use table::{Machine, Table};
 
 fn no_bonds() -> [Bond; 64]
     ensures { result ≡ replicate 64 no_bond }
@@ -22,53 +23,29 @@ fn bonds(s: &[u8]) -> [Bond; 64]
 {
     let n = book::entry_count(s) as usize;
     let mut out = no_bonds();
-    let mut i: usize = 0;
-    while i < n {
+    for i in 0..n {
         out[i] = book::term_bond_at(s, n, i);
-        i += 1;
     }
     out
 }
 
 // A table with these counts, bonds and machines, in which nothing has happened.
+#[tactic(auto, unfolding(crate::specs::Opening::blank))]
 fn blank(machine_count: u8, entries: u8, bonds: [Bond; 64], machines: [Machine; 16]) -> Table
     ensures { result ≡ blank machine_count entries bonds machines }
 {
-    let job = Job {
-        state: table::NOT_ADMITTED,
-        replica: 0,
-        moving: 0,
-        holder: 0,
-        thief: 0,
-        price: 0,
-    };
-    let message = Message {
-        kind: 0,
-        from: 0,
-        to: 0,
-        job: 0,
-        replica: 0,
-        thief: 0,
-        price: 0,
-    };
     Table {
         machine_count,
         entry_count: entries,
         bonds,
-        jobs: [job; 64],
+        jobs: [table::NO_JOB; 64],
         machines,
         told: [0; 256],
         pools: [0; 1024],
         in_flight: 0,
-        messages: [message; 128],
+        messages: [table::NO_MESSAGE; 128],
         open_jobs: 0,
     }
-}
-
-fn no_table() -> Table
-    ensures { result ≡ no_table }
-{
-    blank(0, 0, no_bonds(), [table::idle_machine(0); 16])
 }
 
 // The first m machines are set alive. They are written into the table itself, by an index that runs: arrays that are only written at fixed places are
@@ -77,12 +54,9 @@ fn with_machines(t: Table, m: u8) -> Table
     requires { m ≤ 16 }
     ensures { result ≡ up_to (λ k u. with_machine u k (idle_machine 1)) m t }
 {
-    let n = m as usize;
     let mut u = t;
-    let mut i: usize = 0;
-    while i < n {
+    for i in 0..m as usize {
         u.machines[i] = table::idle_machine(1);
-        i += 1;
     }
     u
 }
@@ -93,25 +67,15 @@ pub fn fresh(s: &[u8]) -> Table
 {
     let m = book::machine_count(s);
     let n = book::entry_count(s);
-    let none = blank(m, n, bonds(s), [table::idle_machine(0); 16]);
+    let none = blank(m, n, bonds(s), [table::NO_MACHINE; 16]);
     with_machines(none, m)
 }
 
-// 0 and the fresh table for an accepted book, else the book's number and no table.
-pub fn open(s: &[u8]) -> Answer
-    ensures { result ≡ open_of s.now }
+// The fresh table for an accepted book, else the book's refusal.
+#[tactic(auto, using(crate::proofs::Opened::book_accepted))]
+pub fn open(s: &[u8]) -> Result<Table, Refusal>
+    ensures { opened result ≡ open_of s.now }
 {
-    let number = book::verdict(s);
-    if number != 0 {
-        let none = no_table();
-        return Answer {
-            number,
-            table: none,
-        };
-    }
-    let t = fresh(s);
-    Answer {
-        number: 0,
-        table: t,
-    }
+    book::verdict(s)?;
+    Ok(fresh(s))
 }

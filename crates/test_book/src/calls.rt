@@ -2,60 +2,73 @@
 //
 // A record begins with 7 bytes: the length of the buffer in two; the expected number; the stated count in two; the lengths of the identifier
 // and of the terms. Then come the buffer, the identifier, the terms, and the buffer as it must be afterwards. All is little-endian.
-ghost use Rattle.std.specs.Prelude.{◌≤◌, ◌<◌, length};
+ghost use Rattle.std.specs.Prelude.{◌<◌};
 
-use crate::wide;
+use test_report::Record;
 
-// How many bytes the first record of s has; all that there are where s ends before the record does.
-pub fn record_size(s: &[u8]) -> usize
-    requires { 0 < length s.now }
-    ensures { (0 < result) × (result ≤ length s.now) }
+// The record of a call.
+pub struct Call;
+
+// How many bytes the first record of s has; where s ends before it says so, at least as many as s.
+fn size(s: &[u8]) -> usize
+    ensures { 0 < result }
 {
-    if s.len() < 7 {
-        return s.len();
+    match s.first_chunk::<7>() {
+        Some(head) => 7
+            + 2 * endian::u16_at(head, 0) as usize
+            + head[5] as usize
+            + head[6] as usize,
+        None => 7,
     }
-    let size = 7 + 2 * (endian::u16_at(s, 0) as usize) + wide(s[5]) + wide(s[6]);
-    if size < s.len() { size } else { s.len() }
 }
 
-// Whether the writer answers this number and leaves these bytes.
-fn leaves(
-    buffer: &mut [u8],
+// What a record holds.
+#[derive(Clone, Copy)]
+struct Parts<'a> {
+    buffer: &'a [u8],
     count: usize,
-    id: &[u8],
-    term: &[u8],
+    identifier: &'a [u8],
+    term: &'a [u8],
     number: u8,
-    after: &[u8],
-) -> bool {
-    let answer = book_writer::add(buffer, count, id, term);
-    (answer == number) & check::same(&buffer[..], after)
+    after: &'a [u8],
 }
 
-// Whether the record is whole, and the writer answers and leaves what it expects.
-pub fn agrees(record: &[u8]) -> bool {
-    if record.len() < 7 {
-        return false;
+// The parts of a record; none where it ends before its terms do.
+fn read(record: &[u8]) -> Option<Parts<'_>> {
+    let (head, rest) = record.split_first_chunk::<7>()?;
+    let (buffer, rest) = rest.split_at_checked(endian::u16_at(head, 0) as usize)?;
+    let (identifier, rest) = rest.split_at_checked(head[5] as usize)?;
+    let (term, after) = rest.split_at_checked(head[6] as usize)?;
+    Some(Parts {
+        buffer,
+        count: endian::u16_at(head, 3) as usize,
+        identifier,
+        term,
+        number: head[2],
+        after,
+    })
+}
+
+impl Record for Call {
+    fn split(s: &[u8]) -> Option<(&[u8], &[u8])> {
+        crate::split(s, size(s))
     }
-    let size = endian::u16_at(record, 0) as usize;
-    let count = endian::u16_at(record, 3) as usize;
-    let id = 7 + size;
-    let term = id + wide(record[5]);
-    let after = term + wide(record[6]);
-    if record.len() != after + size {
-        return false;
+
+    fn expected(record: &[u8]) -> Option<u8> {
+        crate::expected(record)
     }
-    // a longer buffer than the files have is a difference
-    if 2048 < size {
-        return false;
+
+    // A longer buffer than the files have is a difference.
+    fn agrees(record: &[u8]) -> bool {
+        let Some(call) = read(record) else {
+            return false;
+        };
+        let mut work = [0u8; 2048];
+        let Some(buffer) = work.get_mut(..call.buffer.len()) else {
+            return false;
+        };
+        buffer.copy_from_slice(call.buffer);
+        let answer = book_writer::add(buffer, call.count, call.identifier, call.term);
+        refusal::answer(answer) == call.number && *buffer == *call.after
     }
-    let mut work = [0u8; 2048];
-    text::put(&mut work, 0, &record[7..id]);
-    leaves(
-        &mut work[0..size],
-        count,
-        &record[id..term],
-        &record[term..after],
-        record[2],
-        &record[after..],
-    )
 }

@@ -10,244 +10,143 @@
 
 mod calls;
 
-ghost use Rattle.std.specs.Prelude.{◌≡◌, ◌≤◌, ◌<◌, length};
+ghost use Rattle.std.specs.Prelude.{◌+◌, ◌<◌, ◌≤◌, ⊤, length, MatchOption};
 
+use calls::Call;
 use std::rt::Files;
+use test_report::Record;
 
-// What the records of a file are.
-#[derive(Clone, Copy)]
-enum Content {
-    Books,
-    Calls,
-}
-
-// What is counted: the records that expect a number, those of them that agree, all records, the questions, the records that differ.
-#[derive(Clone, Copy)]
-enum Which {
-    Expecting(u8),
-    Agreeing(u8),
-    All,
-    Questions,
-    Differing,
-}
-
-// A byte as a size, with its bound.
-fn wide(x: u8) -> usize
-    ensures { result < 256 }
+// The first bytes of s, as many as size says or all that there are, and what comes after them; none where s is empty.
+fn split(s: &[u8], size: usize) -> Option<(&[u8], &[u8])>
+    requires { 0 < size }
+    ensures { MatchOption result ⊤ (λ p. (0 < length p.0.now) × (length p.0.now + length p.1.now ≤ length s.now)) }
 {
-    x as usize
+    if s.is_empty() {
+        return None;
+    }
+    Some(s.split_at(size.min(s.len())))
 }
 
-// How many bytes the first record of s has, of a book; all that there are where s ends before the record does.
-fn book_record_size(s: &[u8]) -> usize
-    requires { 0 < length s.now }
-    ensures { (0 < result) × (result ≤ length s.now) }
+// The number that a record of either kind expects.
+fn expected(record: &[u8]) -> Option<u8> {
+    let head = record.first_chunk::<6>()?;
+    Some(head[2])
+}
+
+// The record of a book.
+struct Book;
+
+// How many bytes the first record of s has, of a book; where s ends before it says so, at least as many as s.
+fn book_size(s: &[u8]) -> usize
+    ensures { 0 < result }
 {
-    if s.len() < 6 {
-        return s.len();
+    match s.first_chunk::<6>() {
+        Some(head) => 6 + endian::u16_at(head, 0) as usize + 25 * head[5] as usize,
+        None => 6,
     }
-    let size = 6 + endian::u16_at(s, 0) as usize + 25 * wide(s[5]);
-    if size < s.len() { size } else { s.len() }
-}
-
-// The same of a record of either content.
-fn record_size(s: &[u8], content: Content) -> usize
-    requires { 0 < length s.now }
-    ensures { (0 < result) × (result ≤ length s.now) }
-{
-    match content {
-        Content::Books => book_record_size(s),
-        Content::Calls => calls::record_size(s),
-    }
-}
-
-// Whether the book's identifier and price at an entry number are as the question expects.
-fn entry_agrees(book: &[u8], question: &[u8]) -> bool
-    requires { length question.now ≡ 25 }
-{
-    let i = endian::u32_at(question, 0) as usize;
-    let mut number: u8 = 0;
-    let identifier = book::identifier(book, i, &mut number);
-    if number != question[4] {
-        return false;
-    }
-    if number != 0 {
-        return check::same(identifier, &question[5..5]);
-    }
-    check::same(identifier, &question[5..17])
-        & (pricer::price_bits(book::bond(book, i)) == endian::u64_at(question, 17))
-}
-
-fn entries_agree(book: &[u8], questions: &[u8]) -> bool {
-    let n = questions.len() / 25;
-    let mut i = 0;
-    while i < n {
-        let at = 25 * i;
-        let end = at + 25;
-        if !entry_agrees(book, &questions[at..end]) {
-            return false;
-        }
-        i += 1;
-    }
-    true
 }
 
 // Whether the book has this number and, if it is accepted, these counts.
 fn sizes_agree(book: &[u8], number: u8, machines: u8, entries: u8) -> bool {
-    if book::verdict(book) != number {
-        return false;
-    }
-    if number != 0 {
-        return true;
-    }
-    (book::machine_count(book) == machines) & (book::entry_count(book) == entries)
-}
-
-// Whether the record is whole, and its book and entries are as it expects.
-fn book_agrees(record: &[u8]) -> bool {
-    if record.len() < 6 {
-        return false;
-    }
-    let end = 6 + endian::u16_at(record, 0) as usize;
-    if record.len() != end + 25 * wide(record[5]) {
-        return false;
-    }
-    sizes_agree(&record[6..end], record[2], record[3], record[4])
-        & entries_agree(&record[6..end], &record[end..])
-}
-
-// Whether the record is whole, and what it is about is as it expects.
-fn agrees(record: &[u8], content: Content) -> bool {
-    match content {
-        Content::Books => book_agrees(record),
-        Content::Calls => calls::agrees(record),
+    match book::verdict(book) {
+        Err(refusal) => u8::from(refusal) == number,
+        Ok(()) => {
+            number == 0
+                && book::machine_count(book) == machines
+                && book::entry_count(book) == entries
+        }
     }
 }
 
-// Whether the record expects this number.
-fn expects(record: &[u8], number: u8) -> bool {
-    if record.len() < 6 {
-        return false;
+// Whether the book's identifier and price at an entry number are as the question expects.
+fn entry_agrees(book: &[u8], question: &[u8; 25]) -> bool {
+    let i = endian::u32_at(question, 0) as usize;
+    match book::identifier(book, i) {
+        Err(refusal) => u8::from(refusal) == question[4],
+        Ok(identifier) => {
+            question[4] == 0
+                && identifier == &question[5..17]
+                && pricer::price_bits(book::bond(book, i)) == endian::u64_at(question, 17)
+        }
     }
-    record[2] == number
+}
+
+impl Record for Book {
+    fn split(s: &[u8]) -> Option<(&[u8], &[u8])> {
+        crate::split(s, book_size(s))
+    }
+
+    fn expected(record: &[u8]) -> Option<u8> {
+        crate::expected(record)
+    }
+
+    fn agrees(record: &[u8]) -> bool {
+        let &[low, high, number, machines, entries, asked, ref rest @ ..] = record else {
+            return false;
+        };
+        let Some((book, questions)) = rest.split_at_checked(
+            u16::from_le_bytes([low, high]) as usize,
+        ) else {
+            return false;
+        };
+        let (questions, left) = questions.as_chunks::<25>();
+        left.is_empty()
+            && questions.len() == asked as usize
+            && sizes_agree(book, number, machines, entries)
+            && questions
+                .iter()
+                .all(|question| entry_agrees(book, question))
+    }
 }
 
 // How many questions the record asks.
-fn questions(record: &[u8]) -> u64
+fn asked(record: &[u8]) -> u64
     ensures { result ≤ length «record».now }
 {
-    if record.len() < 6 {
-        return 0;
-    }
-    let n = wide(record[5]);
-    if record.len() < n {
-        return 0;
-    }
-    n as u64
-}
-
-// Whether the record differs from what it expects; if so, its number i is printed.
-fn differs(rt: &impl Print, record: &[u8], content: Content, i: u64) -> bool {
-    if agrees(record, content) {
-        return false;
-    }
-    test_report::difference(rt, i);
-    true
-}
-
-fn one_if(b: bool) -> u64
-    ensures { result ≤ 1 }
-{
-    if b { 1 } else { 0 }
-}
-
-// What the record of number i adds to a count.
-fn counted(rt: &impl Print, record: &[u8], content: Content, i: u64, which: Which) -> u64
-    requires { 0 < length «record».now }
-    ensures { result ≤ length «record».now }
-{
-    match which {
-        Which::Expecting(number) => one_if(expects(record, number)),
-        Which::Agreeing(number) => one_if(expects(record, number) & agrees(record, content)),
-        Which::All => 1,
-        Which::Questions => questions(record),
-        Which::Differing => one_if(differs(rt, record, content, i)),
+    match record.get(5) {
+        Some(&n) if n as usize <= record.len() => n as u64,
+        _ => 0,
     }
 }
 
-fn count(rt: &impl Print, data: &[u8], content: Content, which: Which) -> u64 {
-    let mut total: u64 = 0;
-    let mut at = 0;
-    let mut i: u64 = 0;
-    while at < data.len() {
-        let end = at + record_size(&data[at..], content);
-        total += counted(rt, &data[at..end], content, i, which);
-        at = end;
-        i += 1;
-    }
-    total
-}
-
-// A line with the two counts of a number.
-fn print_number(rt: &impl Print, data: &[u8], content: Content, label: &[u8], number: u8) {
-    let agreeing = count(rt, data, content, Which::Agreeing(number));
-    test_report::share(
-        rt,
-        label,
-        agreeing,
-        count(rt, data, content, Which::Expecting(number)),
-    );
-}
-
-fn print_numbers(rt: &impl Print, data: &[u8], content: Content) {
-    print_number(rt, data, content, b"accepted: ", 0);
-    print_number(rt, data, content, b"refused 1: ", 1);
-    print_number(rt, data, content, b"refused 2: ", 2);
-    print_number(rt, data, content, b"refused 3: ", 3);
-    print_number(rt, data, content, b"refused 4: ", 4);
-    print_number(rt, data, content, b"refused 5: ", 5);
-    print_number(rt, data, content, b"refused 6: ", 6);
-    print_number(rt, data, content, b"refused 7: ", 7);
-}
-
-// What is printed of the records of one content alone.
-fn print_own(rt: &impl Print, data: &[u8], content: Content) {
-    match content {
-        Content::Books => {
-            test_report::total(rt, b"books: ", count(rt, data, content, Which::All));
-            test_report::total(
-                rt,
-                b"identifiers: ",
-                count(rt, data, content, Which::Questions),
-            );
-        }
-        Content::Calls => {
-            print_number(rt, data, content, b"refused 23: ", 23);
-            test_report::total(rt, b"calls: ", count(rt, data, content, Which::All));
-        }
+// The lines of the numbers that a record of either kind may expect.
+fn print_numbers<R: Record>(rt: &impl Print, data: &[u8]) {
+    test_report::agreement::<R>(rt, b"accepted: ", data, 0);
+    for number in 1..8 {
+        let _ = print!(rt; "refused {number}");
+        test_report::agreement::<R>(rt, b": ", data, number);
     }
 }
 
-fn compare(rt: &(impl Files + Print + Eprint), name: &[u8], content: Content) {
-    let mut buf = [0u8; 65536];
-    let n = test_report::load(rt, name, &mut buf);
-    test_report::heading(rt, name);
-    print_numbers(rt, &buf[..n], content);
-    print_own(rt, &buf[..n], content);
-    test_report::total(
-        rt,
-        b"differences: ",
-        count(rt, &buf[..n], content, Which::Differing),
-    );
+// Compares the books of a file.
+fn compare_books(rt: &(impl Files + Print + Eprint), name: &[u8]) {
+    test_report::compare::<Book, _>(rt, name, |data| {
+        print_numbers::<Book>(rt, data);
+        test_report::records::<Book>(rt, b"books: ", data);
+        test_report::total(
+            rt,
+            b"identifiers: ",
+            test_report::sum::<Book, _>(data, asked),
+        );
+    });
+}
+
+// Compares the calls of a file.
+fn compare_calls(rt: &(impl Files + Print + Eprint), name: &[u8]) {
+    test_report::compare::<Call, _>(rt, name, |data| {
+        print_numbers::<Call>(rt, data);
+        test_report::agreement::<Call>(rt, b"refused 23: ", data, 23);
+        test_report::records::<Call>(rt, b"calls: ", data);
+    });
 }
 
 fn main(rt: HostRuntime) {
-    compare(&rt, b"sizes.bin", Content::Books);
-    compare(&rt, b"faults.bin", Content::Books);
-    compare(&rt, b"pairs.bin", Content::Books);
-    compare(&rt, b"random.bin", Content::Books);
-    compare(&rt, b"payments.bin", Content::Books);
-    compare(&rt, b"writer_rules.bin", Content::Calls);
-    compare(&rt, b"writer_built.bin", Content::Calls);
-    compare(&rt, b"writer_random.bin", Content::Calls);
+    compare_books(&rt, b"sizes.bin");
+    compare_books(&rt, b"faults.bin");
+    compare_books(&rt, b"pairs.bin");
+    compare_books(&rt, b"random.bin");
+    compare_books(&rt, b"payments.bin");
+    compare_calls(&rt, b"writer_rules.bin");
+    compare_calls(&rt, b"writer_built.bin");
+    compare_calls(&rt, b"writer_random.bin");
 }

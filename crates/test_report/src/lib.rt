@@ -1,7 +1,7 @@
-// What the programs that run outside cases share: reading a data file, and printing counts.
+// What the programs that run outside cases share: reading a data file, comparing its records with what they expect, and printing counts.
 #![tactic(auto)]
 
-ghost use Rattle.std.specs.Prelude.{◌≡◌, ◌≤◌, length, take};
+ghost use Rattle.std.specs.Prelude.{◌≡◌, ◌+◌, ◌<◌, ◌≤◌, ⊤, length, take, MatchOption};
 
 use std::fs::File;
 use std::io::Write;
@@ -68,4 +68,87 @@ pub fn difference(rt: &impl Print, record: u64) {
 pub fn heading(rt: &impl Print, name: &[u8]) {
     let _ = rt.write_all(name);
     let _ = rt.println("");
+}
+
+// A kind of record in a file of cases.
+pub trait Record {
+    // The first record of s, and what comes after it; none where there is no more.
+    fn split(s: &[u8]) -> Option<(&[u8], &[u8])>
+        ensures { MatchOption result ⊤ (λ p. (0 < length p.0.now) × (length p.0.now + length p.1.now ≤ length s.now)) };
+
+    // The number that the record expects; none where it is too short to have one.
+    fn expected(record: &[u8]) -> Option<u8>;
+
+    // Whether what the record is about is as it expects.
+    fn agrees(record: &[u8]) -> bool;
+}
+
+// The sum of a measure over the records; a record measures no more than it has bytes.
+pub fn sum<R: Record, F: Fn(&[u8]) -> u64>(data: &[u8], measure: F) -> u64
+    requires callable { F.IsAlwaysCallable measure }
+    requires small { (s : _) (n : _) → 0 < length s.now → F.post measure s n → n ≤ length s.now }
+    ensures { result ≤ length «data».now }
+{
+    let mut rest = data;
+    let mut total: u64 = 0;
+    while let Some((record, after)) = R::split(rest) {
+        total += measure(record);
+        rest = after;
+    }
+    total
+}
+
+// How many records pass the test.
+pub fn count<R: Record, F: Fn(&[u8]) -> bool>(data: &[u8], test: F) -> u64
+    requires { F.IsAlwaysCallable test }
+    ensures { result ≤ length «data».now }
+{
+    sum::<R, _>(data, |record| u64::from(test(record)))
+}
+
+// A line with how many records there are.
+pub fn records<R: Record>(rt: &impl Print, label: &[u8], data: &[u8]) {
+    total(rt, label, count::<R, _>(data, |_| true));
+}
+
+// A line with how many of the records that expect the number agree, and how many there are.
+pub fn agreement<R: Record>(rt: &impl Print, label: &[u8], data: &[u8], number: u8) {
+    let expecting = count::<R, _>(data, |record| R::expected(record) == Some(number));
+    let agreeing = count::<R, _>(data, |record| {
+        R::expected(record) == Some(number) && R::agrees(record)
+    });
+    share(rt, label, agreeing, expecting);
+}
+
+// A line for each record that differs from what it expects, and one with how many do. There are no more records than bytes.
+fn differences<R: Record>(rt: &impl Print, data: &[u8]) {
+    let mut rest = data;
+    let mut differing: u64 = 0;
+    for i in 0..data.len() as u64 {
+        let Some((record, after)) = R::split(rest) else {
+            break;
+        };
+        if !R::agrees(record) {
+            difference(rt, i);
+            differing += 1;
+        }
+        rest = after;
+    }
+    total(rt, b"differences: ", differing);
+}
+
+// Reads a file of records, and prints its name, the counts, and the records that differ.
+pub fn compare<R: Record, F: Fn(&[u8])>(
+    rt: &(impl Files + Print + Eprint),
+    name: &[u8],
+    print_counts: F,
+)
+    requires { F.IsAlwaysCallable print_counts }
+{
+    let mut buf = [0u8; 65536];
+    let n = load(rt, name, &mut buf);
+    let data = &buf[..n];
+    heading(rt, name);
+    print_counts(data);
+    differences::<R>(rt, data);
 }

@@ -9,61 +9,37 @@ mod tables;
 
 use table::Table;
 
-// The label and the answer that check 9 has for the table.
-fn print_answer(rt: &impl Print, label: &[u8], t: Table) {
+// The table with the changes of a case, each of a field, the place in its array with the low byte first, and the new value.
+fn damaged(changes: &[u8]) -> Table {
+    let mut t = tables::sound();
+    let (changes, _) = changes.as_chunks::<4>();
+    for &[field, low, high, value] in changes {
+        tables::change(
+            &mut t,
+            field,
+            u16::from_le_bytes([low, high]) as usize,
+            value,
+        );
+    }
+    t
+}
+
+// The label, and the answer that check 9 has for the table.
+fn try_case(rt: &impl Print, case: &[u8; 72]) {
+    let (label, changes) = case.split_at(40);
     let _ = rt.write_all(label);
-    if validity::table_ok(t) {
+    if validity::table_ok(damaged(changes)) {
         let _ = rt.println("0");
     } else {
         let _ = rt.println("9");
     }
 }
 
-// A change: the field, the place in its array with the low byte first, and the new value.
-fn apply(t: Table, change: &[u8]) -> Table {
-    if change.len() != 4 {
-        return t;
-    }
-    let place = endian::u16_at(change, 1);
-    tables::changed(t, change[0], place as usize, change[3])
-}
-
-// The table with all changes of the case.
-fn damaged(case: &[u8]) -> Table {
-    let mut t = tables::sound();
-    if case.len() != 72 {
-        return t;
-    }
-    let mut k: usize = 0;
-    while k < 8 {
-        let at = 40 + 4 * k;
-        let end = at + 4;
-        t = apply(t, &case[at..end]);
-        k += 1;
-    }
-    t
-}
-
-fn try_case(rt: &impl Print, case: &[u8]) {
-    if case.len() != 72 {
-        return;
-    }
-    print_answer(rt, &case[0..40], damaged(case));
-}
-
-fn try_cases(rt: &impl Print, data: &[u8]) {
-    let n = data.len() / 72;
-    let mut i: usize = 0;
-    while i < n {
-        let at = 72 * i;
-        let end = at + 72;
-        try_case(rt, &data[at..end]);
-        i += 1;
-    }
-}
-
 fn main(rt: HostRuntime) {
     let mut buf = [0u8; 65536];
     let n = test_report::load(&rt, b"cases.bin", &mut buf);
-    try_cases(&rt, &buf[..n]);
+    let (cases, _) = buf[..n].as_chunks::<72>();
+    for case in cases {
+        try_case(&rt, case);
+    }
 }

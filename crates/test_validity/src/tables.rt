@@ -22,98 +22,71 @@ fn bonds() -> [Bond; 64] {
 
 // Job 0 open and moving from 1 to 2, job 1 priced and on 3, job 2 not admitted.
 fn jobs() -> [Job; 64] {
-    let none = Job {
-        state: table::NOT_ADMITTED,
-        replica: 0,
-        moving: 0,
-        holder: 0,
-        thief: 0,
-        price: 0,
-    };
-    let mut all = [none; 64];
+    let mut all = [table::NO_JOB; 64];
     all[0] = Job {
         state: table::OPEN,
         replica: 1,
         moving: 1,
         holder: 1,
         thief: 2,
-        price: 0,
+        ..table::NO_JOB
     };
     all[1] = Job {
         state: table::PRICED,
         replica: 2,
-        moving: 0,
         holder: 3,
-        thief: 0,
         price: 7,
+        ..table::NO_JOB
     };
     all
 }
 
 // Machines 0, 1 and 2 alive and 3 dead; 1 has a reserved copy for 2 and waits on 0, 2 runs a copy.
 fn machines() -> [Machine; 16] {
-    let none = Machine {
-        alive: 0,
-        reserved_job: 0,
-        reserved_replica: 0,
-        reserved_thief: 0,
-        running_job: 0,
-        running_replica: 0,
-        waits: 0,
+    let mut all = [table::NO_MACHINE; 16];
+    all[0] = Machine {
+        alive: 1,
+        ..table::NO_MACHINE
     };
-    let mut all = [none; 16];
-    let mut n = none;
-    n.alive = 1;
-    all[0] = n;
-    n.running_job = 1;
-    n.running_replica = 2;
-    all[2] = n;
     all[1] = Machine {
         alive: 1,
-        reserved_job: 0,
         reserved_replica: 1,
         reserved_thief: 2,
-        running_job: 0,
-        running_replica: 0,
         waits: 1,
+        ..table::NO_MACHINE
+    };
+    all[2] = Machine {
+        alive: 1,
+        running_job: 1,
+        running_replica: 2,
+        ..table::NO_MACHINE
     };
     all
 }
 
 // FISH from 2 to 1, AUTH from 0 to 1, RESULT from 2 to 0.
 fn messages() -> [Message; 128] {
-    let none = Message {
-        kind: 0,
-        from: 0,
-        to: 0,
-        job: 0,
-        replica: 0,
-        thief: 0,
-        price: 0,
+    let mut all = [table::NO_MESSAGE; 128];
+    all[0] = Message {
+        kind: table::FISH,
+        from: 2,
+        to: 1,
+        ..table::NO_MESSAGE
     };
-    let mut all = [none; 128];
-    let mut m = none;
-    m.kind = table::FISH;
-    m.from = 2;
-    m.to = 1;
-    all[0] = m;
     all[1] = Message {
         kind: table::AUTH,
-        from: 0,
         to: 1,
-        job: 0,
         replica: 1,
         thief: 2,
-        price: 0,
+        ..table::NO_MESSAGE
     };
     all[2] = Message {
         kind: table::RESULT,
         from: 2,
-        to: 0,
         job: 1,
         replica: 2,
-        thief: 0,
         price: 5,
+        ..table::NO_MESSAGE
     };
     all
 }
@@ -158,156 +131,93 @@ fn rate(value: u8) -> f64 {
     }
 }
 
-// Fields 1 to 3.
-fn with_count(t: Table, field: u8, value: u8) -> Table {
-    let mut u = t;
-    if field == 1 {
-        u.machine_count = value;
-    }
-    if field == 2 {
-        u.entry_count = value;
-    }
-    if field == 3 {
-        u.in_flight = value;
-    }
-    u
-}
-
 // Fields 4 to 7 and 30: the periods, a zero's yield, a fixed coupon bond's coupon, a fixed coupon bond's yield, the payments.
-fn new_bond(b: Bond, field: u8, value: u8) -> Bond {
-    let mut u = b;
-    if field == 4 {
-        u.periods = value;
-        return u;
-    }
-    if field == 30 {
-        u.payments = value;
-        return u;
-    }
+fn change_bond(bond: &mut Bond, field: u8, value: u8) {
     match field {
-        5 => pricer::with_terms(b, Terms::Zero(rate(value))),
-        6 => pricer::with_terms(b, Terms::Fixed(rate(value), 0.5)),
-        _ => pricer::with_terms(b, Terms::Fixed(4.0, rate(value))),
+        4 => bond.periods = value,
+        5 => bond.terms = Terms::Zero(rate(value)),
+        6 => bond.terms = Terms::Fixed(rate(value), 0.5),
+        7 => bond.terms = Terms::Fixed(4.0, rate(value)),
+        _ => bond.payments = value,
     }
 }
 
 // Fields 8 to 13, in the order of the struct.
-fn new_job(v: Job, field: u8, value: u8) -> Job {
-    let mut w = v;
+fn change_job(job: &mut Job, field: u8, value: u8) {
     match field {
-        8 => w.state = value,
-        9 => w.replica = value,
-        10 => w.moving = value,
-        11 => w.holder = value,
-        12 => w.thief = value,
-        _ => w.price = value as u64,
+        8 => job.state = value,
+        9 => job.replica = value,
+        10 => job.moving = value,
+        11 => job.holder = value,
+        12 => job.thief = value,
+        _ => job.price = value as u64,
     }
-    w
 }
 
 // Fields 14 to 20, in the order of the struct.
-fn new_machine(n: Machine, field: u8, value: u8) -> Machine {
-    let mut w = n;
+fn change_machine(machine: &mut Machine, field: u8, value: u8) {
     match field {
-        14 => w.alive = value,
-        15 => w.reserved_job = value,
-        16 => w.reserved_replica = value,
-        17 => w.reserved_thief = value,
-        18 => w.running_job = value,
-        19 => w.running_replica = value,
-        _ => w.waits = value,
+        14 => machine.alive = value,
+        15 => machine.reserved_job = value,
+        16 => machine.reserved_replica = value,
+        17 => machine.reserved_thief = value,
+        18 => machine.running_job = value,
+        19 => machine.running_replica = value,
+        _ => machine.waits = value,
     }
-    w
 }
 
 // Fields 23 to 29, in the order of the struct.
-fn new_message(m: Message, field: u8, value: u8) -> Message {
-    let mut w = m;
+fn change_message(message: &mut Message, field: u8, value: u8) {
     match field {
-        23 => w.kind = value,
-        24 => w.from = value,
-        25 => w.to = value,
-        26 => w.job = value,
-        27 => w.replica = value,
-        28 => w.thief = value,
-        _ => w.price = value as u64,
+        23 => message.kind = value,
+        24 => message.from = value,
+        25 => message.to = value,
+        26 => message.job = value,
+        27 => message.replica = value,
+        28 => message.thief = value,
+        _ => message.price = value as u64,
     }
-    w
 }
 
-// Fields 4 to 7 and 30: an entry's bond.
-fn with_bond(t: Table, field: u8, j: usize, value: u8) -> Table {
-    let mut u = t;
-    if j < 64 {
-        let b = t.bonds[j];
-        u.bonds[j] = new_bond(b, field, value);
-    }
-    u
-}
-
-// Fields 8 to 13: an entry's job.
-fn with_job(t: Table, field: u8, j: usize, value: u8) -> Table {
-    let mut u = t;
-    if j < 64 {
-        let v = t.jobs[j];
-        u.jobs[j] = new_job(v, field, value);
-    }
-    u
-}
-
-// Fields 14 to 20: a machine.
-fn with_machine(t: Table, field: u8, m: usize, value: u8) -> Table {
-    let mut u = t;
-    if m < 16 {
-        let n = t.machines[m];
-        u.machines[m] = new_machine(n, field, value);
-    }
-    u
-}
-
-// Field 21, a told flag, and 22, a pool's cell.
-fn with_cell(t: Table, field: u8, place: usize, value: u8) -> Table {
-    let mut u = t;
-    if field == 21 {
-        if place < 256 {
-            u.told[place] = value;
-        }
-    } else {
-        if place < 1024 {
-            u.pools[place] = value;
-        }
-    }
-    u
-}
-
-// Fields 23 to 29: a message.
-fn with_message(t: Table, field: u8, i: usize, value: u8) -> Table {
-    let mut u = t;
-    if i < 128 {
-        let m = t.messages[i];
-        u.messages[i] = new_message(m, field, value);
-    }
-    u
-}
-
-// Field 31.
-fn with_open_jobs(t: Table, value: u8) -> Table {
-    let mut u = t;
-    u.open_jobs = value;
-    u
-}
-
-// One field changed: its number, the place in its array, and the new value. A field of number 0 changes nothing.
-pub fn changed(t: Table, field: u8, place: usize, value: u8) -> Table {
+// Changes one field: its number, the place in its array, and the new value. A field of number 0 changes nothing, and so does a place past the array's
+// end. A field is a number and not an enum, since it is a byte of the cases.
+pub fn change(t: &mut Table, field: u8, place: usize, value: u8) {
     match field {
-        0..=3 => with_count(t, field, value),
-        4..=7 => with_bond(t, field, place, value),
-        8..=13 => with_job(t, field, place, value),
-        14..=20 => with_machine(t, field, place, value),
-        21..=22 => with_cell(t, field, place, value),
-        23..=29 => with_message(t, field, place, value),
-        30 => with_bond(t, field, place, value),
-        31 => with_open_jobs(t, value),
-        _ => t,
+        1 => t.machine_count = value,
+        2 => t.entry_count = value,
+        3 => t.in_flight = value,
+        4..=7 | 30 => {
+            if let Some(bond) = t.bonds.get_mut(place) {
+                change_bond(bond, field, value);
+            }
+        }
+        8..=13 => {
+            if let Some(job) = t.jobs.get_mut(place) {
+                change_job(job, field, value);
+            }
+        }
+        14..=20 => {
+            if let Some(machine) = t.machines.get_mut(place) {
+                change_machine(machine, field, value);
+            }
+        }
+        21 => {
+            if let Some(told) = t.told.get_mut(place) {
+                *told = value;
+            }
+        }
+        22 => {
+            if let Some(cell) = t.pools.get_mut(place) {
+                *cell = value;
+            }
+        }
+        23..=29 => {
+            if let Some(message) = t.messages.get_mut(place) {
+                change_message(message, field, value);
+            }
+        }
+        31 => t.open_jobs = value,
+        _ => {}
     }
 }

@@ -1,3 +1,4 @@
 pub mod Over
 pub mod Digits
 pub mod Decimal
+pub mod Writes

@@ -2,203 +2,155 @@
 // `validity_element` and `validity_message`. And the counts over a whole array, each kept beside it.
 #![tactic(auto)]
 
-ghost use Rattle.std.specs.Prelude.{◌≡◌, ℕ, ◌+◌, ◌*◌, ◌<◌, get_or};
+ghost use Rattle.std.specs.Prelude.{◌≡◌, ℕ, Bool, ◌≤◌, ◌<◌, length, get_or};
 ghost use Rattle.lists.specs.Scan.{all};
-ghost use Rattle.table.specs.Views.{machine_at};
-ghost use Rattle.validity_element.specs.Element.{told_ok, cell_ok};
+ghost use Rattle.table.specs.Views.{machine_at, no_machine};
 ghost use Rattle.table.specs.Parts.{recount};
-ghost use Rattle.validity.specs.Validity.{sizes_ok, max_replica, bonds_ok, jobs_ok, machines_ok, pools_ok, messages_ok, root_ok, tolds_ok, elements_ok};
-ghost use Rattle.validity.specs.Validity.{counts_ok, table_ok};
+ghost use Rattle.validity.specs.Each.{Tells};
+ghost use Rattle.validity.specs.Validity.{sizes_ok, max_replica, bonds_ok, jobs_ok, machines_ok, pool_row, pools_ok, messages_ok, root_ok, told_row};
+ghost use Rattle.validity.specs.Validity.{tolds_ok, elements_ok, counts_ok, table_ok};
 
-use table::Table;
+use table::{Machine, Table};
+use validity_element::Limits;
 
-fn sizes_ok(t: Table) -> bool
-    ensures { result ≡ sizes_ok t }
+// Whether each item passes a test, which is handed the item's index too: whether p holds at each index, where p is what the test answers. It goes to the
+// end whatever it finds: a loop with one way out tests many items at a time.
+fn each<T: Copy, F: Fn(u8, T) -> bool>(items: &[T], test: F) -> bool
+    requires few { length items.now ≤ 256 }
+    requires callable { (i : ℕ) (x : T) → i < length items.now → F.pre test i x }
+    ensures { (n : ℕ) (d : T) (p : ℕ → Bool) → length items.now ≡ n → Tells (F.post test) items.now d p → result ≡ all p n }
+{
+    let mut ok = true;
+    for (i, x) in items.iter().enumerate() {
+        ok &= test(i as u8, *x);
+    }
+    ok
+}
+
+fn sizes_ok(t: &Table) -> bool
+    ensures { result ≡ sizes_ok t.now }
 {
     (2 <= t.machine_count) & (t.machine_count <= 16) & (t.entry_count <= 64) & (t.in_flight <= 128)
 }
 
 // 1 + the deaths the root was told of.
-fn max_replica(t: Table) -> u8
-    ensures { result ≡ max_replica t }
+fn max_replica(t: &Table) -> u8
+    ensures { result ≡ max_replica t.now }
 {
-    let told = t.told;
-    let mut n: u8 = 0;
-    let mut d: usize = 0;
-    while d < 16 {
-        let x = told[d];
-        d += 1;
-        if x == 1 {
-            n += 1;
-        }
-    }
-    n + 1
+    t.told[..16].iter().filter(|x| **x == 1).count() as u8 + 1
 }
 
-fn bonds_ok(t: Table) -> bool
-    ensures { result ≡ bonds_ok t }
+// The limits of a table in which b is the largest replica number.
+fn limits(t: &Table, b: u8) -> Limits
+    ensures machines { result.machines ≡ t.now.machine_count }
+    ensures entries { result.entries ≡ t.now.entry_count }
+    ensures replicas { result.replicas ≡ b }
 {
-    let entries = t.entry_count;
-    let bonds = t.bonds;
-    let mut i: usize = 0;
-    while i < 64 {
-        let x = bonds[i];
-        if !validity_element::bond_ok(entries, i as u8, x) {
-            return false;
-        }
-        i += 1;
+    Limits {
+        machines: t.machine_count,
+        entries: t.entry_count,
+        replicas: b,
     }
-    true
 }
 
-fn jobs_ok(t: Table, b: u8) -> bool
-    ensures { result ≡ jobs_ok t b }
+fn bonds_ok(t: &Table) -> bool
+    ensures { result ≡ bonds_ok t.now }
 {
-    let machines = t.machine_count;
     let entries = t.entry_count;
-    let jobs = t.jobs;
-    let mut i: usize = 0;
-    while i < 64 {
-        let v = jobs[i];
-        if !validity_element::job_ok(machines, entries, b, i as u8, v) {
-            return false;
-        }
-        i += 1;
-    }
-    true
+    each(&t.bonds, |j, x| validity_element::bond_ok(entries, j, x))
 }
 
-fn machines_ok(t: Table, b: u8) -> bool
-    ensures { result ≡ machines_ok t b }
+fn jobs_ok(t: &Table, b: u8) -> bool
+    ensures { result ≡ jobs_ok t.now b }
 {
-    let machine_count = t.machine_count;
-    let entries = t.entry_count;
-    let machines = t.machines;
-    let mut i: usize = 0;
-    while i < 16 {
-        let n = machines[i];
-        if !validity_element::machine_ok(machine_count, entries, b, i as u8, n) {
-            return false;
-        }
-        i += 1;
-    }
-    true
+    let limits = limits(t, b);
+    each(&t.jobs, |j, v| limits.job_ok(j, v))
+}
+
+fn machines_ok(t: &Table, b: u8) -> bool
+    ensures { result ≡ machines_ok t.now b }
+{
+    let limits = limits(t, b);
+    each(&t.machines, |m, n| limits.machine_ok(m, n))
 }
 
 // Of each number that a byte may have, whether that machine is alive: 1 or 0, and 0 where there is none. Made once, and lent.
-fn alive_of(t: Table) -> [u8; 256]
-    ensures { (k : ℕ) → get_or result k 0 ≡ (machine_at t k).alive }
+fn alive_of(machines: &[Machine; 16]) -> [u8; 256]
+    ensures { (k : ℕ) → get_or result k 0 ≡ (get_or machines.now k no_machine).alive }
 {
-    let machines = t.machines;
-    let mut alive = [0u8; 256];
-    let mut i: usize = 0;
-    while i < 16 {
-        let n = machines[i];
+    let mut alive = [0; 256];
+    for (i, n) in machines.iter().enumerate() {
         alive[i] = n.alive;
-        i += 1;
     }
     alive
 }
 
-// The pool of machine m, of which alive says whether it is. It goes to the end whatever it finds: a loop with one way out tests many cells at a time.
-fn pool_row(entries: u8, b: u8, alive: u8, pools: &[u8; 1024], m: usize) -> bool
+// The pool of machine m.
+fn pool_row(t: &Table, b: u8, m: u8) -> bool
     requires { m < 16 }
-    ensures { result ≡ all (λ j. cell_ok entries b alive j (get_or pools.now (m * 64 + j) 0)) 64 }
+    ensures { result ≡ pool_row t.now b m }
 {
-    let base = m * 64;
-    let mut ok = true;
-    let mut i: usize = 0;
-    while i < 64 {
-        let x = pools[base + i];
-        ok = ok & validity_element::cell_ok(entries, b, alive, i as u8, x);
-        i += 1;
-    }
-    ok
+    let limits = limits(t, b);
+    let alive = t.machines[m as usize].alive;
+    let first = m as usize * 64;
+    each(
+        &t.pools[first..first + 64],
+        |j, x| limits.cell_ok(alive, j, x),
+    )
 }
 
-fn pools_ok(t: Table, b: u8) -> bool
-    ensures { result ≡ pools_ok t b }
+fn pools_ok(t: &Table, b: u8) -> bool
+    ensures { result ≡ pools_ok t.now b }
 {
-    let entries = t.entry_count;
-    let pools = t.pools;
-    let machines = t.machines;
-    let mut i: usize = 0;
-    while i < 16 {
-        let n = machines[i];
-        if !pool_row(entries, b, n.alive, &pools, i) {
-            return false;
-        }
-        i += 1;
-    }
-    true
+    each(&t.machines, |m, _| pool_row(t, b, m))
 }
 
-fn messages_ok(t: Table, b: u8, alive: &[u8; 256]) -> bool
-    requires { (k : ℕ) → get_or alive.now k 0 ≡ (machine_at t k).alive }
-    ensures { result ≡ messages_ok t b }
+fn messages_ok(t: &Table, b: u8, alive: &[u8; 256]) -> bool
+    requires { (k : ℕ) → get_or alive.now k 0 ≡ (machine_at t.now k).alive }
+    ensures { result ≡ messages_ok t.now b }
 {
-    let machine_count = t.machine_count;
-    let entries = t.entry_count;
+    let limits = limits(t, b);
     let used = t.in_flight;
-    let messages = t.messages;
-    let mut i: usize = 0;
-    while i < 128 {
-        let m = messages[i];
-        let to = alive[m.to as usize];
-        if !validity_message::slot_ok(machine_count, entries, b, used, i as u8, to, m) {
-            return false;
-        }
-        i += 1;
-    }
-    true
+    each(
+        &t.messages,
+        |i, m| validity_message::slot_ok(limits, used, i, alive[m.to as usize], m),
+    )
 }
 
-fn root_ok(t: Table) -> bool
-    ensures { result ≡ root_ok t }
+fn root_ok(t: &Table) -> bool
+    ensures { result ≡ root_ok t.now }
 {
-    let n = t.machines[0];
-    n.alive == 1
+    t.machines[0].alive == 1
 }
 
-// What machine m has been told. It goes to the end, as `pool_row` does.
-fn told_row(machine_count: u8, alive: &[u8; 256], told: &[u8; 256], m: usize) -> bool
-    requires { m < 16 }
-    ensures { result ≡ all (λ d. told_ok machine_count (get_or alive.now d 0) m d (get_or told.now (m * 16 + d) 0)) 16 }
+// What machine m has been told.
+fn told_row(t: &Table, alive: &[u8; 256], m: u8) -> bool
+    requires is { (k : ℕ) → get_or alive.now k 0 ≡ (machine_at t.now k).alive }
+    requires within { m < 16 }
+    ensures { result ≡ told_row t.now m }
 {
-    let base = m * 16;
-    let mut ok = true;
-    let mut i: usize = 0;
-    while i < 16 {
-        let a = alive[i];
-        let x = told[base + i];
-        ok = ok & validity_element::told_ok(machine_count, a, m as u8, i as u8, x);
-        i += 1;
-    }
-    ok
+    let machines = t.machine_count;
+    let first = m as usize * 16;
+    each(
+        &t.told[first..first + 16],
+        |d, x| validity_element::told_ok(machines, alive[d as usize], m, d, x),
+    )
 }
 
-fn tolds_ok(t: Table, alive: &[u8; 256]) -> bool
-    requires { (k : ℕ) → get_or alive.now k 0 ≡ (machine_at t k).alive }
-    ensures { result ≡ tolds_ok t }
+fn tolds_ok(t: &Table, alive: &[u8; 256]) -> bool
+    requires { (k : ℕ) → get_or alive.now k 0 ≡ (machine_at t.now k).alive }
+    ensures { result ≡ tolds_ok t.now }
 {
-    let machine_count = t.machine_count;
-    let told = t.told;
-    let mut i: usize = 0;
-    while i < 16 {
-        if !told_row(machine_count, alive, &told, i) {
-            return false;
-        }
-        i += 1;
-    }
-    true
+    each(&t.machines, |m, _| told_row(t, alive, m))
 }
 
 // Whether each element passes its test.
-fn elements_ok(t: Table) -> bool
-    ensures { result ≡ elements_ok t }
+#[tactic(auto, unfolding(crate::specs::Validity::elements_ok, table::specs::Views::parts))]
+fn elements_ok(t: &Table) -> bool
+    ensures { result ≡ elements_ok t.now }
 {
     let b = max_replica(t);
-    let alive = alive_of(t);
+    let alive = alive_of(&t.machines);
     sizes_ok(t)
         & bonds_ok(t)
         & jobs_ok(t, b)
@@ -213,17 +165,7 @@ fn elements_ok(t: Table) -> bool
 pub fn recount(t: Table) -> u8
     ensures { result ≡ recount t }
 {
-    let jobs = t.jobs;
-    let mut n: u8 = 0;
-    let mut i: usize = 0;
-    while i < 64 {
-        let v = jobs[i];
-        i += 1;
-        if v.state == table::OPEN {
-            n += 1;
-        }
-    }
-    n
+    t.jobs.iter().filter(|v| v.state == table::OPEN).count() as u8
 }
 
 // Whether each number that is kept of a whole array is that of the array.
@@ -237,5 +179,5 @@ fn counts_ok(t: Table) -> bool
 pub fn table_ok(t: Table) -> bool
     ensures { result ≡ table_ok t }
 {
-    elements_ok(t) & counts_ok(t)
+    elements_ok(&t) & counts_ok(t)
 }

@@ -1,5 +1,5 @@
 // Refusal 9, one message slot: what is in use is a message in order to a living machine, what is not is all 0.
-// Each function is handed numbers and the one message, never the table.
+// Each function is handed limits, numbers and the one message, never the table.
 #![tactic(auto)]
 
 ghost use Rattle.std.specs.Prelude.{◌≡◌};
@@ -7,17 +7,12 @@ ghost use Rattle.validity_message.specs.Message.{empty_message, with_copy, with_
 ghost use Rattle.validity_message.specs.Message.{slot_ok};
 
 use table::Message;
+use validity_element::Limits;
 
 fn empty_message(m: Message) -> bool
     ensures { result ≡ empty_message m }
 {
-    (m.kind == 0)
-        & (m.from == 0)
-        & (m.to == 0)
-        & (m.job == 0)
-        & (m.replica == 0)
-        & (m.thief == 0)
-        & (m.price == 0)
+    m == table::NO_MESSAGE
 }
 
 fn with_copy(k: u8) -> bool
@@ -46,39 +41,37 @@ fn kind_ok(m: Message) -> bool
         & ((m.kind == table::RESULT) | (m.price == 0))
 }
 
-fn ends_ok(machines: u8, m: Message) -> bool
-    ensures { result ≡ ends_ok machines m }
+fn ends_ok(limits: Limits, m: Message) -> bool
+    ensures { result ≡ ends_ok limits.machines m }
 {
-    let w = to_root(m.kind);
-    (m.from < machines) & (m.to < machines) & (!w | (m.to == 0))
+    (m.from < limits.machines) & (m.to < limits.machines) & (!to_root(m.kind) | (m.to == 0))
 }
 
-fn carries_ok(entries: u8, b: u8, m: Message) -> bool
-    ensures { result ≡ carries_ok entries b m }
+fn carries_ok(limits: Limits, m: Message) -> bool
+    ensures { result ≡ carries_ok limits.entries limits.replicas m }
 {
     let w = with_copy(m.kind);
-    w & validity_element::copy_ok(entries, b, m.job, m.replica)
-        | !w & ((m.job == 0) & (m.replica == 0))
+    w & limits.copy_ok(m.job, m.replica) | !w & ((m.job == 0) & (m.replica == 0))
 }
 
-fn thief_ok(machines: u8, m: Message) -> bool
-    ensures { result ≡ thief_ok machines m }
+fn thief_ok(limits: Limits, m: Message) -> bool
+    ensures { result ≡ thief_ok limits.machines m }
 {
     let w = with_thief(m.kind);
-    w & (m.thief < machines) | !w & (m.thief == 0)
+    w & (m.thief < limits.machines) | !w & (m.thief == 0)
 }
 
-fn message_ok(machines: u8, entries: u8, b: u8, m: Message) -> bool
-    ensures { result ≡ message_ok machines entries b m }
+fn message_ok(limits: Limits, m: Message) -> bool
+    ensures { result ≡ message_ok limits.machines limits.entries limits.replicas m }
 {
-    kind_ok(m) & ends_ok(machines, m) & carries_ok(entries, b, m) & thief_ok(machines, m)
+    kind_ok(m) & ends_ok(limits, m) & carries_ok(limits, m) & thief_ok(limits, m)
 }
 
-pub fn slot_ok(machines: u8, entries: u8, b: u8, used: u8, i: u8, alive: u8, m: Message) -> bool
-    ensures { result ≡ slot_ok machines entries b used i alive m }
+pub fn slot_ok(limits: Limits, used: u8, i: u8, alive: u8, m: Message) -> bool
+    ensures { result ≡ slot_ok limits.machines limits.entries limits.replicas used i alive m }
 {
     if used <= i {
         return empty_message(m);
     }
-    (alive == 1) & message_ok(machines, entries, b, m)
+    (alive == 1) & message_ok(limits, m)
 }

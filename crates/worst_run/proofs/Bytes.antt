@@ -2,14 +2,14 @@
 -- Assumes nothing.
 use Prim.Native.Nat.{ℕ, zero, suc, ◌+◌, ◌*◌, ◌≤◌}
 use mathlib.Core.Path.{◌≡◌, refl, sym, ap, ◌∙◌}
-use mathlib.Core.List.{List, ◌++◌, flatten}
+use mathlib.Core.List.{List, ◌++◌, append_assoc, flatten}
 use native.Mathlib.Numerals.{add-one}
 use native.Mathlib.Omega.{arith}
 use lib.ListN.{length, length-append}
 use Rattle.lists.proofs.Count.{every_both}
 use Rattle.lists.proofs.Slices.{flatten_append}
-use Rattle.text.specs.Text.{onto, joined, Written}
-use Rattle.text.proofs.Over.{over_onto, then, joined_most}
+use Rattle.text.specs.Text.{Written}
+use Rattle.text.proofs.Over.{then}
 use Rattle.dispatcher.specs.Codes.{ADMIT}
 use Rattle.dispatcher.specs.Step.{event}
 use Rattle.dispatcher.proofs.Bytes.{Three, length_three}
@@ -42,35 +42,20 @@ length_bytes k = omega (arith, length_three (worst_run k) (three_run k), length_
 
 -- ---- as the code writes them
 
--- turn i of the loop: the death of machine i + 1
-abbrev pub turn_bytes : ℕ → List ℕ
-turn_bytes i = flatten (death_of (i + 1))
+bytes_more : (k : ℕ) → worst_bytes (suc k) ≡ worst_bytes k ++ flatten (death_of (suc k))
+unfolding worst_bytes worst_run deaths_to flatten
+bytes_more k =
+    ap (λ (l : List ℕ). event ADMIT 0 0 ++ l) (flatten_append (deaths_to k) (death_of (suc k)))
+    ∙ sym (append_assoc (event ADMIT 0 0) (flatten (deaths_to k)) (flatten (death_of (suc k))))
 
-turn_length : (i : ℕ) → length (turn_bytes i) ≤ 21
-unfolding flatten death_of
-turn_length i = omega arith
+-- the first event
+pub run_none : {s d : List ℕ} {a : ℕ} → Written s 0 (event ADMIT 0 0) d a → Written s 0 (worst_bytes 0) d a
+unfolding worst_bytes worst_run deaths_to flatten
+run_none w = w
 
--- the bytes of the first i turns
-pub turns_length : (i : ℕ) → length (joined turn_bytes i) ≤ i * 21
-turns_length i = joined_most turn_bytes 21 i (λ j l. turn_length j)
-
-deaths_joined : (k : ℕ) → flatten (deaths_to k) ≡ joined turn_bytes k
-unfolding deaths_to flatten joined
-deaths_joined zero = refl
-deaths_joined (suc k) =
-    flatten_append (deaths_to k) (death_of (suc k))
-    ∙ ap (λ (l : List ℕ). l ++ flatten (death_of (suc k))) (deaths_joined k)
-    ∙ ap (λ (n : ℕ). joined turn_bytes k ++ flatten (death_of n)) (sym (add-one k))
-
-bytes_joined : (k : ℕ) → event ADMIT 0 0 ++ joined turn_bytes k ≡ worst_bytes k
-unfolding worst_bytes worst_run flatten
-bytes_joined k = ap (λ (l : List ℕ). event ADMIT 0 0 ++ l) (sym (deaths_joined k))
-
--- the first event, and then the turns
-pub all_written : (k : ℕ) {s d u : List ℕ} {a b : ℕ} → 3 * (1 + 7 * k) ≤ length s → Written s 0 (event ADMIT 0 0) d a
-    → Written d a (joined turn_bytes k) u b → u ≡ onto (worst_bytes k) s
-all_written k {s} {d} {u} {a} {b} room p q =
-    let w = event ADMIT 0 0 ++ joined turn_bytes k in
-    let n : length w ≡ 3 * (1 + 7 * k) = ap length (bytes_joined k) ∙ length_bytes k in
-    let all : Written s 0 w u b = then p q (omega arith) in
-    all.text ∙ over_onto s w ∙ ap (λ (l : List ℕ). onto l s) (bytes_joined k)
+-- one death more
+pub run_more : (k : ℕ) {s d e : List ℕ} {a b : ℕ} → 3 * (1 + 7 * (k + 1)) ≤ length s → Written s 0 (worst_bytes k) d a
+    → Written d a (flatten (death_of (k + 1))) e b → Written s 0 (worst_bytes (k + 1)) e b
+run_more k room v w =
+    let l = ap length (bytes_more k) in
+    rw (add-one k, bytes_more k) (then v (rw (add-one k) at w) (omega (arith, length_bytes (suc k))))

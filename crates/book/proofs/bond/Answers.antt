@@ -2,6 +2,7 @@
 use Prim.Native.Nat.{◌<◌}
 use mathlib.Core.Path.{◌∙◌}
 use native.Mathlib.Omega.{arith}
+use lib.Ieee.{of_bits}
 use Rattle.book.specs.Parts.{entry_count_of}
 use Rattle.book.proofs.Accepted.{counted, bond_counted, bond_past}
 use Rattle.book.proofs.bond.Goals as goal
@@ -21,4 +22,5 @@ pub returns-then-i-n : goal.returns-then-i-n
 returns-then-i-n c = c.term_bond_at.ensures ∙ bond_counted _ _ _ c.entry_count-n.ensures (below (goal.at.returns-then-i-n c).Then-i-n)
 
 pub returns-else-i-n : goal.returns-else-i-n
-returns-else-i-n c = c.bond_in.ensures ∙ bond_past _ _ (rw c.entry_count-n.ensures at c.if-i-n.false)
+unfolding of_bits
+returns-else-i-n c = bond_past _ _ (rw c.entry_count-n.ensures at c.if-i-n.false)

@@ -1,12 +1,8 @@
 -- `book::equal` meets its contract. The invariant: what holds of the two is what holds of their first i bytes. Assumes nothing.
-use Prim.Native.Nat.{◌≤◌}
 use mathlib.Core.Path.{◌≡◌}
-use lib.ListN.{length, take}
+use lib.ListN.{take}
 use Rattle.book.specs.Book.{same_bytes}
 use Rattle.book.proofs.equal.Given as goal
 
 abbrev pub invariant-loop-i : goal.invariant-loop-i
-invariant-loop-i l = (l.i ≤ length l.a) × (length l.a ≡ length l.b) × (same_bytes l.a l.b ≡ same_bytes (take l.i l.a) (take l.i l.b))
-
-abbrev pub decreases-loop-i : goal.decreases-loop-i
-decreases-loop-i l = l.i
+invariant-loop-i l = same_bytes l.a l.b ≡ same_bytes (take l.i l.a) (take l.i l.b)

@@ -7,7 +7,7 @@ use Rattle.book.proofs.Faults.{compared, found, missed}
 use Rattle.book.proofs.holds.Goals as goal
 
 pub loop-k-init : goal.loop-k-init
-loop-k-init c = (search rules, all_none _)
+loop-k-init c = all_none _
 
 pub returns-then-equal : goal.returns-then-equal
 returns-then-equal c =
@@ -15,11 +15,9 @@ returns-then-equal c =
     (compared _ _ _ _ _ c.identifier_at.ensures c.equal.ensures ∙ ap not c.if-equal.true)
 
 pub loop-k-preserved : goal.loop-k-preserved
-loop-k-preserved c = (
-  search rules,
-  all_more _ _ c.loop-k.invariant.1
-      (compared _ _ _ _ _ c.identifier_at.ensures c.equal.ensures ∙ ap not c.if-equal.false),
-)
+loop-k-preserved c =
+    all_more _ _ c.loop-k.invariant
+    (compared _ _ _ _ _ c.identifier_at.ensures c.equal.ensures ∙ ap not c.if-equal.false)
 
 pub returns : goal.returns
-returns c = missed _ _ _ (all_end _ _ _ (search rules) (search rules) c.loop-k.invariant.1)
+returns c = missed _ _ _ (all_end _ _ _ (search rules) (search rules) c.loop-k.invariant)

@@ -1,12 +1,8 @@
 -- `book::lowest_fault` meets its contract. The invariant: no entry before i is faulty. Assumes nothing.
-use Prim.Native.Nat.{◌≤◌, ◌-◌}
 use mathlib.Core.Path.{◌≡◌}
 use Rattle.lists.specs.Scan.{least}
 use Rattle.book.proofs.Faults.{is_faulty}
 use Rattle.book.proofs.lowest_fault.Given as goal
 
 abbrev pub invariant-loop-i : goal.invariant-loop-i
-invariant-loop-i l = (l.i ≤ l.n) × (least (is_faulty l.s l.n) l.i ≡ l.i)
-
-abbrev pub decreases-loop-i : goal.decreases-loop-i
-decreases-loop-i l = l.n - l.i
+invariant-loop-i l = least (is_faulty l.s l.n) l.i ≡ l.i

@@ -1,25 +1,24 @@
 -- `book_writer::add` meets its contract: a refusal leaves the buffer, and what is written is the grown book. Assumes nothing.
 use native.Mathlib.Omega.{arith}
-use Rattle.book_writer.proofs.Answers.{Adds}
-use Rattle.book_writer.proofs.Growing.{refused, passed, grow_asks, grew}
+use mathlib.Core.Path.{sym, ◌∙◌}
+use Rattle.refusal.proofs.Passed.{passed_on, not_zero}
+use Rattle.book_writer.proofs.Answers.{number_adds, added_refused}
+use Rattle.book_writer.proofs.Growing.{grow_asks, grew}
 use Rattle.book_writer.proofs.add.Goals as goal
-use Rattle.book_writer.proofs.add.Goals.{Else-r-ne0}
 
--- past the test the entry is added
-adding : (c : Else-r-ne0) → let a = c.args in
-    Adds a.buffer.now a.count a.id.now a.term.now
-adding c = passed _ _ _ _ _ c.number-r.ensures c.if-r-ne0.false
-
-pub returns-then-r-ne0 : goal.returns-then-r-ne0
-returns-then-r-ne0 c =
-    let p = refused _ _ _ _ _ c.number-r.ensures c.if-r-ne0.true in record { value = p.0; buffer_after = p.1 }
+pub returns-in_err-number : goal.returns-in_err-number
+returns-in_err-number c =
+    let e = c.in_err-number.ensures in
+    record {
+      value = passed_on _ _ c.from_residual.ensures ∙ e;
+      buffer_after = sym (added_refused _ _ _ _ (not_zero c.in_err-number.field-0.0 _ e));
+    }
 
 pub bounds-buffer-2 : goal.bounds-buffer-2
-bounds-buffer-2 c = omega (arith, (adding (goal.at.bounds-buffer-2 c).Else-r-ne0).space)
+bounds-buffer-2 c = omega (arith, (number_adds _ _ _ _ (sym c.in_ok-number.ensures)).space)
 
 pub grow-requires : goal.grow-requires
-grow-requires c = grow_asks _ _ _ _ (adding (goal.at.grow-requires c).Else-r-ne0)
+grow-requires c = grow_asks _ _ _ _ (number_adds _ _ _ _ (sym c.in_ok-number.ensures))
 
 pub returns : goal.returns
-returns c =
-    let p = grew _ _ _ _ _ c.number-r.ensures c.if-r-ne0.false _ c.grow.ensures in record { value = p.0; buffer_after = p.1 }
+returns c = record { value = c.in_ok-number.ensures; buffer_after = grew _ _ _ _ c.in_ok-number.ensures _ c.grow.ensures }

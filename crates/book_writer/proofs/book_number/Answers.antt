@@ -1,53 +1,47 @@
 -- `book_writer::book_number` meets its contract: each return is a case of the definition. Assumes nothing.
 use Prim.Native.Nat.{ℕ, ◌+◌, ◌-◌, ◌≤◌, ◌<◌}
 use mathlib.Core.Path.{◌≡◌, sym, ◌∙◌}
+use mathlib.Core.Logic.{◌≢◌}
 use mathlib.Core.Bool.{cond}
 use mathlib.Core.List.{List}
 use native.Mathlib.Omega.{arith}
-use borrow.Author.Tests.{le-leb, lt-leb, lt-ltb, le-ltb, eq-eqb, ne_eqb}
+use borrow.Author.Tests.{le-leb, lt-leb, lt-ltb, le-ltb, ne_eqb}
 use lib.Dec.{ltb}
 use lib.ListN.{length, get_or}
+use Rattle.refusal.proofs.Passed.{passed_on, not_zero}
 use Rattle.book.specs.Book.{book_verdict}
 use Rattle.book.specs.Parts.{entry_count_of}
 use Rattle.book.specs.Entry.{entry_fault}
 use Rattle.book.proofs.Accepted.{whole_length, count_byte}
-use Rattle.book_writer.specs.Writer.{grown, book_number}
+use Rattle.book_writer.specs.Writer.{book_number}
 use Rattle.book_writer.proofs.Answers.{longer}
 use borrow.Author.Rules.{rules}
 use Rattle.book_writer.proofs.book_number.Goals as goal
-use Rattle.book_writer.proofs.book_number.Goals.{Else-f-ne0, Else-v-ne0}
 
--- past the first test the book is accepted
-accepted : (c : Else-v-ne0) → book_verdict c.args.s.now ≡ 0
-accepted c = sym c.verdict-v.ensures ∙ c.if-v-ne0.false
+-- the cases of the definition, with the entry count of an accepted book read in byte 2
+module _ (s : List ℕ) (size : ℕ) (id term : List ℕ) where
+  by_book : book_verdict s ≢ 0 → book_number s size id term ≡ book_verdict s
+  unfolding book_number
+  by_book h = rw (ne_eqb (book_verdict s) 0 h)
 
--- its entry count
-count_is : (c : Else-v-ne0) → let s = c.args.s.now in get_or s 2 0 ≡ entry_count_of s
-count_is c = count_byte _ (accepted c)
+  module _ (e : 0 ≡ book_verdict s) where
+    count_is : get_or s 2 0 ≡ entry_count_of s
+    count_is = count_byte s (sym e)
 
--- an entry without fault, by the number that was answered for the first n entries
-faultless : (s id term : List ℕ) (n r : ℕ) → r ≡ entry_fault s n id term → n ≡ entry_count_of s → r ≡ 0 → entry_fault s (entry_count_of s) id term ≡ 0
-faultless s id term n r e k z = rw (← k, ← e) z
+    by_count : 64 ≤ get_or s 2 0 → book_number s size id term ≡ 2
+    unfolding book_number
+    by_count h = rw (← e, ← count_is, le-leb 64 (get_or s 2 0) h)
 
--- past the third, the grown book has 31 bytes more
-longer_is : (c : Else-f-ne0) → let a = c.args in
-    length (grown a.s.now a.id.now a.term.now) ≡ length a.s.now + 31
-longer_is c =
-    longer _ _ _ (accepted (goal.at.Else-f-ne0 c).Else-v-ne0) (faultless _ _ _ _ _ c.entry_fault-f.ensures (count_is (goal.at.Else-f-ne0 c).Else-v-ne0) c.if-f-ne0.false)
+    by_entry : get_or s 2 0 < 64 → entry_fault s (get_or s 2 0) id term ≢ 0 → book_number s size id term ≡ entry_fault s (get_or s 2 0) id term
+    unfolding book_number
+    by_entry h d = rw (← e, ← count_is, lt-leb 64 (get_or s 2 0) h, ne_eqb (entry_fault s (get_or s 2 0) id term) 0 d)
 
--- and what is left of the definition is the test of the room
-room_left : (c : Else-f-ne0) → let a = c.args in
-    book_number a.s.now a.size a.id.now a.term.now ≡ cond (ltb a.size (length a.s.now + 31)) 23 0
-unfolding book_number
-room_left c =
-    rw (
-      eq-eqb _ _ (accepted (goal.at.Else-f-ne0 c).Else-v-ne0),
-      longer_is c,
-      ← count_is (goal.at.Else-f-ne0 c).Else-v-ne0,
-      lt-leb _ _ c.if-n-ge64.false,
-      ← c.entry_fault-f.ensures,
-      eq-eqb _ _ c.if-f-ne0.false,
-    )
+    -- what is left is the test of the room: the grown book has 31 bytes more
+    by_room : get_or s 2 0 < 64 → 0 ≡ entry_fault s (get_or s 2 0) id term → book_number s size id term ≡ cond (ltb size (length s + 31)) 23 0
+    unfolding book_number
+    by_room h f =
+        let n = count_is in
+        rw (← e, longer s id term (sym e) (rw n at (sym f)), ← n, lt-leb 64 (get_or s 2 0) h, ← f)
 
 -- the test of the room, without a sum that might not fit a number
 shorter : (a b : ℕ) → a ≤ b → b - a < 31 → b < a + 31
@@ -56,33 +50,34 @@ shorter a b h k = omega arith
 enough : (a b : ℕ) → a ≤ b → 31 ≤ b - a → a + 31 ≤ b
 enough a b h k = omega arith
 
-pub bounds-s-2 : goal.bounds-s-2
-bounds-s-2 c = let w = whole_length _ (accepted (goal.at.bounds-s-2 c).Else-v-ne0) in omega (arith, w)
+pub returns-in_err-verdict : goal.returns-in_err-verdict
+returns-in_err-verdict c =
+    let e = c.in_err-verdict.ensures in
+    passed_on _ _ c.from_residual.ensures ∙ e ∙ sym (by_book _ _ _ _ (not_zero c.in_err-verdict.field-0.0 _ e))
 
-pub returns-then-v-ne0 : goal.returns-then-v-ne0
-unfolding book_number
-returns-then-v-ne0 c = rw (← c.verdict-v.ensures, ne_eqb _ _ c.if-v-ne0.true)
+pub bounds-s-2 : goal.bounds-s-2
+bounds-s-2 c = let w = whole_length _ (sym c.in_ok-verdict.ensures) in omega (arith, w)
 
 pub returns-then-n-ge64 : goal.returns-then-n-ge64
-unfolding book_number
-returns-then-n-ge64 c = rw (eq-eqb _ _ (accepted (goal.at.returns-then-n-ge64 c).Else-v-ne0), ← count_is (goal.at.returns-then-n-ge64 c).Else-v-ne0, le-leb _ _ c.if-n-ge64.true)
+returns-then-n-ge64 c = sym (by_count _ _ _ _ c.in_ok-verdict.ensures c.if-n-ge64.true)
 
-pub entry_fault-f-requires : goal.entry_fault-f-requires
-entry_fault-f-requires c = omega (arith, whole_length _ (accepted (goal.at.entry_fault-f-requires c).Else-v-ne0), count_is (goal.at.entry_fault-f-requires c).Else-v-ne0)
+pub entry_fault-requires : goal.entry_fault-requires
+entry_fault-requires c =
+    let e = sym c.in_ok-verdict.ensures in
+    omega (arith, whole_length _ e, count_byte _ e)
 
-pub returns-then-f-ne0 : goal.returns-then-f-ne0
-unfolding book_number
-returns-then-f-ne0 c =
-    rw (
-      eq-eqb _ _ (accepted (goal.at.returns-then-f-ne0 c).Else-v-ne0),
-      ← count_is (goal.at.returns-then-f-ne0 c).Else-v-ne0,
-      lt-leb _ _ c.if-n-ge64.false,
-      ← c.entry_fault-f.ensures,
-      ne_eqb _ _ c.if-f-ne0.true,
-    )
+pub returns-in_err-entry_fault : goal.returns-in_err-entry_fault
+returns-in_err-entry_fault c =
+    let e = c.in_err-entry_fault.ensures in
+    passed_on _ _ c.from_residual-in_err-entry_fault.ensures ∙ e
+    ∙ sym (by_entry _ _ _ _ c.in_ok-verdict.ensures c.if-n-ge64.false (not_zero c.in_err-entry_fault.field-0.0 _ e))
 
 pub returns-then-size-s-lt31 : goal.returns-then-size-s-lt31
-returns-then-size-s-lt31 c = sym (room_left (goal.at.returns-then-size-s-lt31 c).Else-f-ne0 ∙ rw (lt-ltb _ _ (shorter _ _ (search rules) c.if-size-s-lt31.true)))
+returns-then-size-s-lt31 c =
+    sym (by_room _ _ _ _ c.in_ok-verdict.ensures c.if-n-ge64.false c.in_ok-entry_fault.ensures
+    ∙ rw (lt-ltb _ _ (shorter _ _ (search rules) c.if-size-s-lt31.true)))
 
 pub returns : goal.returns
-returns c = sym (room_left (goal.at.returns c).Else-f-ne0 ∙ rw (le-ltb _ _ (enough _ _ (search rules) c.if-size-s-lt31.false)))
+returns c =
+    sym (by_room _ _ _ _ c.in_ok-verdict.ensures c.if-n-ge64.false c.in_ok-entry_fault.ensures
+    ∙ rw (le-ltb _ _ (enough _ _ (search rules) c.if-size-s-lt31.false)))

@@ -12,7 +12,7 @@ use Rattle.isin.proofs.sum.Goals as goal
 use Rattle.isin.proofs.sum.Goals.{Else-is_digit, In-loop-i, Then-is_digit}
 
 pub loop-i-init : goal.loop-i-init
-loop-i-init c = (omega arith, omega arith, no_digits c.args.s.now)
+loop-i-init c = (omega arith, no_digits c.args.s.now)
 
 -- the character at i - 1
 abbrev byte : In-loop-i → ℕ
@@ -20,50 +20,34 @@ byte c = get_or c.args.s.now (c.loop-i.i - 1) 0
 
 pub value-v-requires : goal.value-v-requires
 value-v-requires c =
-    let at = c.before.before in
-    let i = at.loop-i.invariant.0 in
-    let p = c.loop-i-test.true in
-    at.requires.by_index _ (omega arith)
+    c.requires.by_index _ (omega arith)
 
 -- where it is a digit its value is one digit, and else two
 one : (c : Then-is_digit) → c.value-v.result < 10
-one c =
-    let at = c.before.before.before in
-    rw at.value-v.ensures.value (digit_below (byte (goal.at.Then-is_digit c).In-loop-i) (sym c.is_digit.ensures ∙ c.if-is_digit.true))
+one c = rw c.value-v.ensures.value (digit_below (byte (goal.at.Then-is_digit c).In-loop-i) (sym c.is_digit.ensures ∙ c.if-is_digit.true))
 
 two : (c : Else-is_digit) → 10 ≤ c.value-v.result
-two c =
-    let at = c.before.before.before in
-    rw at.value-v.ensures.value (other_above (byte (goal.at.Else-is_digit c).In-loop-i) (sym c.is_digit.ensures ∙ c.if-is_digit.false))
+two c = rw c.value-v.ensures.value (other_above (byte (goal.at.Else-is_digit c).In-loop-i) (sym c.is_digit.ensures ∙ c.if-is_digit.false))
 
 pub loop-i-preserved-then-is_digit : goal.loop-i-preserved-then-is_digit
-loop-i-preserved-then-is_digit c =
-    let value = c.before.before.before.before in
-    let loop = value.before.before in
-    let at = loop.before in (
-      omega arith,
-      omega arith,
-      one_digit _ _ _ _ _ _ loop.loop-i-test.true at.loop-i.invariant.0 value.value-v.ensures.value
-          (one (goal.at.loop-i-preserved-then-is_digit c).Then-is_digit) c.weighed.ensures.value at.loop-i.invariant.2,
-    )
+loop-i-preserved-then-is_digit c = (
+  omega arith,
+  one_digit _ _ _ _ _ _ c.loop-i-test.true (omega arith) c.value-v.ensures.value
+      (one (goal.at.loop-i-preserved-then-is_digit c).Then-is_digit) c.weighed.ensures.value c.loop-i.invariant.1,
+)
 
 pub loop-i-preserved : goal.loop-i-preserved
-loop-i-preserved c =
-    let value = c.before.before.before.before.before in
-    let loop = value.before.before in
-    let at = loop.before in (
-      omega arith,
-      omega arith,
-      two_digits _ _ _ _ _ _ _ loop.loop-i-test.true at.loop-i.invariant.0 value.value-v.ensures.value
-          (two (goal.at.loop-i-preserved c).Else-is_digit) c.weighed-else-is_digit.ensures.value c.weighed-else-is_digit-2.ensures.value at.loop-i.invariant.2,
-    )
+loop-i-preserved c = (
+  omega arith,
+  two_digits _ _ _ _ _ _ _ c.loop-i-test.true (omega arith) c.value-v.ensures.value
+      (two (goal.at.loop-i-preserved c).Else-is_digit) c.weighed-else-is_digit.ensures.value c.weighed-else-is_digit-2.ensures.value c.loop-i.invariant.1,
+)
 
 pub returns : goal.returns
 returns c =
-    let at = c.before in
-    let z : at.loop-i.i ≡ 0 = omega arith in
+    let z : c.loop-i.i ≡ 0 = omega arith in
     record {
-      value = at.loop-i.invariant.2.0 ∙ ap (λ (n : ℕ). digit_sum (expanded (drop n at.args.s.now))) z;
+      value = c.loop-i.invariant.1.0 ∙ ap (λ (n : ℕ). digit_sum (expanded (drop n c.args.s.now))) z;
       upper_bound = omega arith;
     }
 

@@ -8,7 +8,4 @@ use Rattle.isin.proofs.Digits.{Says}
 use Rattle.isin.proofs.sum.Given as goal
 
 abbrev pub invariant-loop-i : goal.invariant-loop-i
-invariant-loop-i l = (l.i ≤ length l.s) × (l.t + 18 * l.i ≤ 18 * length l.s) × Says l.t l.twice (expanded (drop l.i l.s))
-
-abbrev pub decreases-loop-i : goal.decreases-loop-i
-decreases-loop-i l = l.i
+invariant-loop-i l = (l.t + 18 * l.i ≤ 18 * length l.s) × Says l.t l.twice (expanded (drop l.i l.s))

@@ -1,7 +1,8 @@
 -- `page::put_run` meets its contract. Assumes nothing.
-use mathlib.Core.Path.{◌≡◌}
+use mathlib.Core.Path.{◌≡◌, ap}
 use mathlib.Core.Bool.{true}
 use native.Mathlib.Omega.{arith}
+use lib.ListN.{length}
 use Rattle.table.proofs.Long.{long}
 use Rattle.table.proofs.Views.{Sized}
 use Rattle.validity.specs.Validity.{table_ok}
@@ -27,24 +28,27 @@ sized_after : (c : After-run-ran) → Sized c.run-ran.result.table
 sized_after c = let s = (goal.at.After-run-ran c).Start in
     rw c.run-ran.ensures.table (run_sized c.args.t (events_in c.args.events.now) (sized s))
 
-pub put_entries-end-requires : goal.put_entries-end-requires
-put_entries-end-requires c =
-    let r = (goal.at.put_entries-end-requires c).After-run-ran in
+pub put_entries-requires : goal.put_entries-requires
+put_entries-requires c =
+    let r = (goal.at.put_entries-requires c).After-run-ran in
     let b = c.requires.events_len_bound in
+    let n = c.new-c.ensures in
     record {
       t_value = passed r;
-      entries_most_in_bounds = omega (arith, c.run-ran.ensures.lines.end, listed_most c.args.t c.args.events.now b.0, b.1);
+      entries_most_in_bounds = omega (arith, n.at, ap length n.text, c.run-ran.ensures.lines.end, listed_most c.args.t c.args.events.now b.0, b.1);
     }
 
 pub put_open_jobs-requires : goal.put_open_jobs-requires
 put_open_jobs-requires c =
     let r = (goal.at.put_open_jobs-requires c).After-run-ran in
     let b = c.requires.events_len_bound in
+    let n = c.new-c.ensures in
+    let p = c.put_entries.ensures in
     let u = c.run-ran.result.table in
     let m = entries_most_lem c.args.book.now u (sized_after r) (passed r) in
     let l = listed_most c.args.t c.args.events.now b.0 in
     record {
-      at_in_bounds = omega (arith, c.put_entries-end.ensures.end, c.run-ran.ensures.lines.end, m, l, b.1);
+      at_in_bounds = omega (arith, p.written.end, p.long, n.at, ap length n.text, c.run-ran.ensures.lines.end, m, l, b.1);
       n_bound = omega (arith, c.open_jobs.ensures, open_small c.args.book.now u (sized_after r) (passed r));
     }
 
@@ -52,6 +56,8 @@ pub returns : goal.returns
 returns c =
     let a = c.args in
     let b = c.requires.events_len_bound in
-    let n = run_most a.book.now a.t a.events.now (sized (goal.at.returns c).Start) c.requires.t_value b.0 in
-    run_written a.book.now a.t (events_in a.events.now) c.run-ran.ensures c.put_entries-end.ensures
-    (rw c.open_jobs.ensures at c.put_open_jobs.ensures) (omega (arith, n, b.1))
+    let n = c.new-c.ensures in
+    let m = run_most a.book.now a.t a.events.now (sized (goal.at.returns c).Start) c.requires.t_value b.0 in
+    let w = run_written a.book.now a.t (events_in a.events.now) c.run-ran.ensures (rw (n.text, n.at) at c.put_entries.ensures.written)
+    (rw c.open_jobs.ensures at c.put_open_jobs.ensures.written) (omega (arith, m, b.1)) in
+    record { text = grind (arith, w.text, c.put_open_jobs.ensures.same, c.put_entries.ensures.same, n.same_reference); end = w.end }

@@ -1,12 +1,7 @@
--- `pricer::price_zero` meets its contract. The invariant: after i periods p is the definition's value at i. The measure: the periods left.
--- Assumes nothing.
-use Prim.Native.Nat.{◌≤◌, ◌-◌}
+-- `pricer::price_zero` meets its contract. The invariant: after i periods p is the definition's value at i. Assumes nothing.
 use mathlib.Core.Path.{◌≡◌}
 use Rattle.pricer.specs.Price.{zero_after}
 use Rattle.pricer.proofs.price_zero.Given as goal
 
 abbrev pub invariant-loop-i : goal.invariant-loop-i
-invariant-loop-i l = (l.i ≤ l.periods) × (l.p ≡ zero_after l.d l.i)
-
-abbrev pub decreases-loop-i : goal.decreases-loop-i
-decreases-loop-i l = l.periods - l.i
+invariant-loop-i l = l.p ≡ zero_after l.d l._i

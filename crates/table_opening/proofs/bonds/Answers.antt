@@ -49,21 +49,3 @@ pub returns : goal.returns
 unfolding bonds_of
 returns c = tabulate_end _ 64 no_bond _ c.loop-i.i c.loop-i.out (omega (arith, c.loop-i.invariant.0))
     (omega (arith, c.loop-i.invariant.0)) c.loop-i.invariant.2
-
-pub entry_count-n-requires : goal.entry_count-n-requires
-entry_count-n-requires c = search tests
-
-pub overflow_cast-n : goal.overflow_cast-n
-overflow_cast-n c = search tests
-
-pub no_bonds-out-requires : goal.no_bonds-out-requires
-no_bonds-out-requires c = search tests
-
-pub offset_bounds-out-i : goal.offset_bounds-out-i
-offset_bounds-out-i c = search tests
-
-pub overflow_add-i : goal.overflow_add-i
-overflow_add-i c = search tests
-
-pub loop-i-smaller : goal.loop-i-smaller
-loop-i-smaller c = search tests

@@ -21,7 +21,6 @@ returns c =
     rw (
       c.with_machines.ensures,
       c.blank-none.ensures,
-      c.idle_machine.ensures,
       c.bonds.ensures,
       c.entry_count-n.ensures,
       m.ensures,

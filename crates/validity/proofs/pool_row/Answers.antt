@@ -1,36 +1,17 @@
--- `validity::pool_row` meets its contract. The loop keeps: the test of all the cells passed so far.
+-- `validity::pool_row` meets its contract. Item i of the row is cell m * 64 + i of the array.
 -- Assumes nothing.
-use Rattle.lists.proofs.Rules.{tests}
-use mathlib.Core.Path.{sym}
-use Rattle.lists.proofs.Scans.{all_none, all_next, all_kept}
+use Rattle.std.proofs.Common.{rules, arith, ◌≡◌, ◌+◌, ◌-◌, ◌*◌, get_or, take, drop}
+use Rattle.table.specs.Views.{parts, no_machine}
+use Rattle.validity_element.specs.Element.{cell_ok}
+use Rattle.validity.specs.Validity.{pool_row}
+use Rattle.validity.proofs.Rows.{row_at}
 use Rattle.validity.proofs.pool_row.Goals as goal
 
-pub loop-i-init : goal.loop-i-init
-loop-i-init c = (search tests, sym (all_none _))
-
-pub loop-i-preserved : goal.loop-i-preserved
-loop-i-preserved c = (search tests, all_next _ _ _ _ c.loop-i.invariant.1 c.cell_ok-ok.ensures)
-
 pub returns : goal.returns
-returns c = all_kept _ 64 c.loop-i.i _ (search tests) (search tests) c.loop-i.invariant.1
-
-pub overflow_mul-base : goal.overflow_mul-base
-overflow_mul-base c = search tests
-
-pub overflow_add-x : goal.overflow_add-x
-overflow_add-x c = search tests
-
-pub bounds-pools-base : goal.bounds-pools-base
-bounds-pools-base c = search tests
-
-pub overflow_cast-i : goal.overflow_cast-i
-overflow_cast-i c = search tests
-
-pub cell_ok-ok-requires : goal.cell_ok-ok-requires
-cell_ok-ok-requires c = search tests
-
-pub overflow_add-i : goal.overflow_add-i
-overflow_add-i c = search tests
-
-pub loop-i-smaller : goal.loop-i-smaller
-loop-i-smaller c = search tests
+unfolding pool_row parts
+returns c = c.each.ensures 64 0 _ (omega arith) (λ i r h q.
+    let l = c.args.t.now.pools in
+    let a = c.args.m * 64 in
+    let x = get_or (take ((a + 64) - a) (drop a l)) i 0 in
+    let e : r ≡ cell_ok c.args.t.now.entry_count c.args.b (get_or c.args.t.now.machines c.args.m no_machine).alive i x = search rules in
+    cc (e, row_at l a 64 i 0 (omega arith)))

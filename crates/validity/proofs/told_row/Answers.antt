@@ -1,42 +1,17 @@
--- `validity::told_row` meets its contract. The loop keeps: the test of all the flags passed so far.
+-- `validity::told_row` meets its contract. Item i of the row is flag m * 16 + i of the array, and the flags lent are the machines' own.
 -- Assumes nothing.
-use Rattle.lists.proofs.Rules.{tests}
-use mathlib.Core.Path.{sym}
-use Rattle.lists.proofs.Scans.{all_none, all_next, all_kept}
+use Rattle.std.proofs.Common.{rules, arith, ◌≡◌, ◌+◌, ◌-◌, ◌*◌, get_or, take, drop}
+use Rattle.table.specs.Views.{parts}
+use Rattle.validity_element.specs.Element.{told_ok}
+use Rattle.validity.specs.Validity.{told_row}
+use Rattle.validity.proofs.Rows.{row_at}
 use Rattle.validity.proofs.told_row.Goals as goal
 
-pub loop-i-init : goal.loop-i-init
-loop-i-init c = (search tests, sym (all_none _))
-
-pub loop-i-preserved : goal.loop-i-preserved
-loop-i-preserved c = (search tests, all_next _ _ _ _ c.loop-i.invariant.1 c.told_ok-ok.ensures)
-
 pub returns : goal.returns
-returns c = all_kept _ 16 c.loop-i.i _ (search tests) (search tests) c.loop-i.invariant.1
-
-pub overflow_mul-base : goal.overflow_mul-base
-overflow_mul-base c = search tests
-
-pub bounds-alive-i : goal.bounds-alive-i
-bounds-alive-i c = search tests
-
-pub overflow_add-x : goal.overflow_add-x
-overflow_add-x c = search tests
-
-pub bounds-told-base : goal.bounds-told-base
-bounds-told-base c = search tests
-
-pub overflow_cast-m : goal.overflow_cast-m
-overflow_cast-m c = search tests
-
-pub overflow_cast-i : goal.overflow_cast-i
-overflow_cast-i c = search tests
-
-pub told_ok-ok-requires : goal.told_ok-ok-requires
-told_ok-ok-requires c = search tests
-
-pub overflow_add-i : goal.overflow_add-i
-overflow_add-i c = search tests
-
-pub loop-i-smaller : goal.loop-i-smaller
-loop-i-smaller c = search tests
+unfolding told_row parts
+returns c = c.each.ensures 16 0 _ (omega arith) (λ i r h q.
+    let l = c.args.t.now.told in
+    let a = c.args.m * 16 in
+    let x = get_or (take ((a + 16) - a) (drop a l)) i 0 in
+    let e : r ≡ told_ok c.args.t.now.machine_count (get_or c.args.alive.now i 0) c.args.m i x = search rules in
+    cc (e, row_at l a 16 i 0 (omega arith), c.requires.is i))
