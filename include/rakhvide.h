@@ -9,7 +9,7 @@
  * No function keeps a pointer, allocates, or has state of its own: calls on different buffers may run side by side.
  * A number of 0 is accepted. Any other is a refusal, and then every buffer, and *bits, holds what it held. rakhvide_page and rakhvide_open_jobs answer
  * no such number: see there.
- * A call needs up to 64 KiB of stack. */
+ * A call needs up to 128 KiB of stack. */
 #ifndef RAKHVIDE_H
 #define RAKHVIDE_H
 
