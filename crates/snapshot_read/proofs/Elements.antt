@@ -1,8 +1,8 @@
 -- What is done at each index: an array that `from_fn` makes, a test of all of a range, and where an element ends. Assumes nothing.
 use Prim.Native.Nat.{ℕ, zero, suc, ◌+◌, ◌*◌, ◌≤◌, ◌<◌}
-use mathlib.Core.Path.{◌≡◌, refl, sym, ap, ◌∙◌, subst}
+use mathlib.Core.Path.{◌≡◌, sym, ◌∙◌, subst}
 use mathlib.Core.Bool.{Bool, true, false}
-use mathlib.Core.List.{List, [], ◌∷◌, ◌++◌}
+use mathlib.Core.List.{List}
 use native.Mathlib.Nat.{mul-le-mul_left}
 use native.Mathlib.Omega.{arith}
 use denote.Param.Members.{Mut, Called}
@@ -47,15 +47,6 @@ module _ {F B : Type 0} (g : Mut F (ℕ × Unit {0}) B) (v : ℕ → B) (f : F)
     where
       zero_plus : (k : ℕ) → get_or ys (0 + k) (v 0) ≡ v (0 + k) → get_or ys k (v 0) ≡ v k
       zero_plus k p = let z : 0 + k ≡ k = omega arith in subst (λ m. get_or ys m (v 0) ≡ v m) z p
-
--- bytes are elements of one byte
-pub bytes_at : (s : List ℕ) (at n : ℕ) → tabulate (λ i. get_or s (at + 1 * i) 0) n ≡ tabulate (λ i. get_or s (at + i) 0) n
-unfolding tabulate
-bytes_at s at zero = refl
-bytes_at s at (suc n) =
-    let z : at + 1 * n ≡ at + n = omega arith in
-    ap (λ (l : List ℕ). l ++ (get_or s (at + 1 * n) 0 ∷ [])) (bytes_at s at n)
-    ∙ ap (λ (k : ℕ). tabulate (λ i. get_or s (at + i) 0) n ++ (get_or s k 0 ∷ [])) z
 
 listed : (n k : ℕ) → k < n → get_or (range_with_len 0 n) k 0 ≡ k
 listed n k l = let z : 0 + k ≡ k = omega arith in get_or-range_with_len 0 n k 0 l ∙ z

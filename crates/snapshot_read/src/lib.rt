@@ -87,18 +87,6 @@ trait Element {
         ensures { result ≡ from s.now at };
 }
 
-impl Element for u8 {
-    const SIZE: usize = 1;
-
-    ghost SIZE = { 1 };
-
-    ghost from = { λ s at. get_or s at 0 };
-
-    fn read(s: &[u8], at: usize) -> u8 {
-        s[at]
-    }
-}
-
 impl Element for Bond {
     const SIZE: usize = BOND_SIZE;
 
@@ -194,6 +182,16 @@ fn array<T: Element, const N: usize>(s: &[u8], start: usize) -> [T; N]
     )
 }
 
+// The bytes from an index on.
+fn bytes<const N: usize>(s: &[u8], start: usize) -> [u8; N]
+    requires { start + N ≤ length s.now }
+    ensures { result ≡ tabulate (λ i. get_or s.now (start + i) 0) N }
+{
+    let mut out = [0; N];
+    out.copy_from_slice(&s[start..start + N]);
+    out
+}
+
 // ---- the whole
 
 // The table of the bytes.
@@ -207,8 +205,8 @@ pub fn decode(s: &[u8]) -> Table
         bonds: array(s, BONDS_START),
         jobs: array(s, JOBS_START),
         machines: array(s, MACHINES_START),
-        told: array(s, TOLD_START),
-        pools: array(s, POOLS_START),
+        told: bytes(s, TOLD_START),
+        pools: bytes(s, POOLS_START),
         in_flight: s[USED_START],
         messages: array(s, MESSAGES_START),
         open_jobs: s[OPEN_START],

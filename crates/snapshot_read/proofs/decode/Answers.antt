@@ -1,7 +1,5 @@
 -- `snapshot_read::decode` meets its contract: by the equations of its arrays. Assumes nothing.
-use mathlib.Core.Path.{◌∙◌}
-use Rattle.snapshot_read.specs.Layout.{told_start, pools_start, bonds_from, jobs_from, machines_from, told_from, pools_from, messages_from, decode}
-use Rattle.snapshot_read.proofs.Elements.{bytes_at}
+use Rattle.snapshot_read.specs.Layout.{bonds_from, jobs_from, machines_from, told_from, pools_from, messages_from, decode}
 use Rattle.snapshot_read.proofs.decode.Goals as goal
 
 pub returns : goal.returns
@@ -12,7 +10,7 @@ returns c =
       c.array.ensures,
       c.array-2.ensures,
       c.array-3.ensures,
-      c.array-4.ensures ∙ bytes_at s told_start 256,
-      c.array-5.ensures ∙ bytes_at s pools_start 1024,
-      c.array-6.ensures,
+      c.bytes.ensures,
+      c.bytes-2.ensures,
+      c.array-4.ensures,
     )
