@@ -65,6 +65,7 @@ in_range m n code a b =
 abbrev pub ask : Code → ℕ → ℕ → Ask
 ask c a b = record { code = c; a = a; b = b }
 
+-- the event of a code with its two numbers, where the code is that of an event
 abbrev pub ask_by : Result Code Refusal → ℕ → ℕ → Result Ask Refusal
 ask_by (Ok c) a b = Ok (ask c a b)
 ask_by (Err r) a b = Err r

@@ -376,7 +376,8 @@ pub fn apply(t: &mut Table, event: &[u8]) -> Result<(), Refusal>
     Ok(())
 }
 
-// All events of s, one after another, on a table that passes check 9: the table after them, and the number of each at the front of the buffer.
+// All events of s, one after another, on a table that passes check 9: the table after them, and the number of each at the front of the buffer,
+// as `answers_of` has them: numbers and no Results, since the buffer is the caller's bytes.
 pub fn run(t: Table, s: &[u8], numbers: &mut [u8]) -> Table
     requires t_value { table_ok t ≡ true }
     requires s_len_bound { (length s.now ≤ bytes_most) × (event_count s.now ≤ length numbers.old) }

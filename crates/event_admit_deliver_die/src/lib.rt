@@ -1,5 +1,5 @@
 // Events 1, 3 and 6: Admit, Deliver, Die. Steal and Notice are crates of their own, Start and Done the crate `event_start_done`.
-// An event is a number, by the chain of its refusals in document 01's order, and what it makes where that number is 0: a change of the table's parts.
+// An event is whether it is refused, by the chain of its refusals in document 01's order, and what it makes where it is not: a change of the table's parts.
 // Deliver's change is the handler's (crate `handler`); Die changes more than parts, and takes a table that passed check 9 by value.
 #![tactic(auto)]
 
@@ -12,7 +12,7 @@ use protocol_change::{Change, Parts};
 use refusal::Refusal;
 use table::{Job, Machine, Table};
 
-// Event 1: its number, for job v.
+// Event 1: whether it is refused, for job v.
 #[tactic(auto, unfolding(crate::specs::AdmitDeliverDie::admit_number))]
 pub fn admit_number(v: Job) -> Result<(), Refusal>
     ensures { answer_of result ≡ admit_number v }
@@ -35,7 +35,7 @@ pub fn admitted(p: Parts) -> Change
     }
 }
 
-// Event 3: its number, for the number of messages in flight and the slot of the oldest from a to b, which is that number where there is none.
+// Event 3: whether it is refused, for the number of messages in flight and the slot of the oldest from a to b, which is that number where there is none.
 #[tactic(auto, unfolding(crate::specs::AdmitDeliverDie::deliver_number))]
 pub fn deliver_number(used: usize, slot: usize) -> Result<(), Refusal>
     ensures { answer_of result ≡ deliver_number used slot }
@@ -46,7 +46,7 @@ pub fn deliver_number(used: usize, slot: usize) -> Result<(), Refusal>
     Ok(())
 }
 
-// Event 6: its number, for machine a, which is n.
+// Event 6: whether it is refused, for machine a, which is n.
 #[tactic(auto, unfolding(crate::specs::AdmitDeliverDie::die_number))]
 pub fn die_number(a: u8, n: Machine) -> Result<(), Refusal>
     ensures { answer_of result ≡ die_number a n }

@@ -1,4 +1,4 @@
-// Event 8, Join: its number, by the chain of its refusals in document 02's order, and the table that it makes where that number is 0. It changes the
+// Event 8, Join: whether it is refused, by the chain of its refusals in document 02's order, and the table that it makes where it is not. It changes the
 // machine count, and so takes a table by value, as Die does.
 #![tactic(auto)]
 
@@ -9,7 +9,7 @@ ghost use Rattle.event_join.specs.Join.{joined, join_number};
 use refusal::Refusal;
 use table::Table;
 
-// Event 8: its number, for a table of so many machines, the dead ones among them.
+// Event 8: whether it is refused, for a table of so many machines, the dead ones among them.
 #[tactic(auto, unfolding(crate::specs::Join::join_number))]
 pub fn join_number(count: u8, a: u8) -> Result<(), Refusal>
     ensures { answer_of result ≡ join_number count a }

@@ -97,7 +97,7 @@ pub fn noticed(t: Table, a: u8, b: u8) -> Table
     u
 }
 
-// Its number, for machine a, which is n, and machine b, which is d, and whether a was told that b is dead.
+// Whether it is refused, for machine a, which is n, and machine b, which is d, and whether a was told that b is dead.
 #[tactic(auto, unfolding(crate::specs::Notice::notice_number))]
 pub fn notice_number(n: Machine, d: Machine, told: u8) -> Result<(), Refusal>
     ensures { answer_of result ≡ notice_number n d told }

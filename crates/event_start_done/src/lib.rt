@@ -1,5 +1,5 @@
-// Events 4 and 5 by the parts of a table that they look at: Start and Done. An event is a number, by the chain of its refusals in document 01's
-// order, and the change that it makes where that number is 0.
+// Events 4 and 5 by the parts of a table that they look at: Start and Done. An event is whether it is refused, by the chain of its refusals in
+// document 01's order, and the change that it makes where it is not.
 #![tactic(auto)]
 
 ghost use Rattle.std.specs.Prelude.{◌≡◌};
@@ -11,7 +11,7 @@ use protocol_change::{Change, Parts};
 use refusal::Refusal;
 use table::{Machine, Message};
 
-// Event 4: its number, for machine n and the replica number of the job in its pool.
+// Event 4: whether it is refused, for machine n and the replica number of the job in its pool.
 #[tactic(auto, unfolding(crate::specs::StartDone::start_number))]
 pub fn start_number(n: Machine, cell: u8) -> Result<(), Refusal>
     ensures { answer_of result ≡ start_number n cell }
@@ -44,7 +44,7 @@ pub fn started(p: Parts, b: u8) -> Change
     }
 }
 
-// Event 5: its number, for machine n and the number of messages in flight.
+// Event 5: whether it is refused, for machine n and the number of messages in flight.
 #[tactic(auto, unfolding(crate::specs::StartDone::done_number))]
 pub fn done_number(n: Machine, used: u8) -> Result<(), Refusal>
     ensures { answer_of result ≡ done_number n used }

@@ -1,5 +1,5 @@
-// Event 2 by the parts of a table that it looks at: its number, by its refusals in document 01's order, and the change that it makes where that
-// number is 0.
+// Event 2 by the parts of a table that it looks at: whether it is refused, by its refusals in document 01's order, and the change that it makes
+// where it is not.
 #![tactic(auto)]
 
 ghost use Rattle.std.specs.Prelude.{◌≡◌, ◌<◌};
@@ -11,7 +11,7 @@ use protocol_change::{Change, Parts};
 use refusal::Refusal;
 use table::{Machine, Message};
 
-// Its number, for thief a, which is n, and victim b, which is v: whether a was told that b is dead, and how many messages are in flight.
+// Whether it is refused, for thief a, which is n, and victim b, which is v: whether a was told that b is dead, and how many messages are in flight.
 #[tactic(auto, unfolding(crate::specs::Steal::steal_number))]
 pub fn steal_number(n: Machine, v: Machine, told: u8, used: u8, a: u8, b: u8) -> Result<(), Refusal>
     ensures { answer_of result ≡ steal_number n v told used a b }

@@ -21,7 +21,7 @@ fn put_line_end(c: &mut Cursor, words: &[u8], n: u64)
     c.put(b"\n")
 }
 
-// The line of a refused book.
+// The line of a refused book. The refusal is a number here and below, as in the line, and as a run hands it on.
 #[tactic(auto, unfolding(crate::specs::Lines::book_refused_line))]
 pub fn put_book_refused(c: &mut Cursor, n: u64)
     requires at_in_bounds { Room c.old 16 }

@@ -145,6 +145,7 @@ pub fn compare<R: Record, F: Fn(&[u8])>(
 )
     requires { F.IsAlwaysCallable print_counts }
 {
+    // room for the longest file, and how much was read: nothing is allocated
     let mut buf = [0u8; 65536];
     let n = load(rt, name, &mut buf);
     let data = &buf[..n];

@@ -36,6 +36,7 @@ fn try_case(rt: &impl Print, case: &[u8; 72]) {
 }
 
 fn main(rt: HostRuntime) {
+    // room for the file, and how much was read: nothing is allocated
     let mut buf = [0u8; 65536];
     let n = test_report::load(&rt, b"cases.bin", &mut buf);
     let (cases, _) = buf[..n].as_chunks::<72>();
