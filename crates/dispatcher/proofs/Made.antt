@@ -17,8 +17,9 @@ use Rattle.protocol_change.specs.declared.Change.{Change}
 use Rattle.protocol_change.specs.Change.{parts_at, made, send_some}
 use Rattle.protocol_messages.specs.InPlace.{taken, stored}
 use Rattle.handler.proofs.Made.{handled_job_below}
+use Rattle.handler.proofs.Sent.{ToMachine}
 use Rattle.dispatcher.proofs.Ready.{measured, ready, within_any}
-use Rattle.dispatcher.proofs.OnTable.{Placed, placed, numbered, changed, stores_none}
+use Rattle.dispatcher.proofs.OnTable.{Placed, placed, numbered, changed, sent_to, stores_none}
 use Rattle.dispatcher.specs.declared.Ask.{Ask}
 use Rattle.dispatcher.specs.declared.Code.{Code}
 use Rattle.dispatcher.specs.declared.Code.TheVariants.{Admit, Steal, Deliver, Start, Done, Die, Notice, Join}
@@ -76,6 +77,11 @@ module _ (t : Table) (p : Passed t) (q : Ask) (k : Asked t q) where
   -- the change
   abbrev pub change : Change
   change = change_of q v.parts v.message v.told v.low (bond_at t v.parts.machine.running_job)
+
+  -- what it sends goes to a machine
+  pub look_to : ToMachine change.sent
+  unfolding look_of parts_at
+  look_to = sent_to t (ready t (measured t p) p.ok) _ _ within q k
 
   abbrev pub after : Table
   after = written t v.place.machine v.place.job change

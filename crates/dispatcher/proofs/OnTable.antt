@@ -21,15 +21,16 @@ use Rattle.table.specs.declared.Answer.{Answer}
 use Rattle.table.specs.Views.{bond_at, machine_at, told_at, message_at, with_machine, refuse, parts}
 use Rattle.table.specs.Messages.{remove_at}
 use Rattle.table.specs.Needs.{RoomFor, Within, Ready}
-use Rattle.table.specs.Parts.{message, waiting, pieces}
+use Rattle.table.specs.Parts.{message, result, waiting, pieces}
 use Rattle.table.proofs.Views.{alive_machine}
 use Rattle.table.proofs.Refusals.{Judged, accepted}
 use Rattle.protocol_change.specs.declared.Change.{Change}
-use Rattle.protocol_change.specs.Change.{parts_at, made}
+use Rattle.protocol_change.specs.Change.{parts_at, made, silent}
 use Rattle.protocol_messages.specs.InPlace.{taken, stored}
 use Rattle.handler.specs.Handler.{handle}
 use Rattle.handler.specs.HandlerParts.{lowest_for, handled_job, handle_change}
 use Rattle.handler.proofs.Made.{made_handle, lowest_for_lem}
+use Rattle.handler.proofs.Sent.{ToMachine, to_none, to_some, handle_to}
 use Rattle.event_admit_deliver_die.specs.AdmitDeliverDie.{admit_of, delivered, deliver_of, die_of}
 use Rattle.event_admit_deliver_die.proofs.Cases.{by_admit, by_deliver}
 use Rattle.event_admit_deliver_die.proofs.Made.{admit_number_lem, made_admitted, deliver_number_lem, die_number_lem}
@@ -128,7 +129,7 @@ unfolding in_range indices_in_range
 in_range_lem t code a b = refl
 
 -- an event is refused by 10 or 11, or it is that of its code, with its numbers in the table
-by_ask : (t : Table) (e : List ℕ) (P : Result Ask Refusal → Type 0) → ((r : Refusal) → answer_of t e ≡ refuse (refusal_number r) t → P (Err r))
+pub by_ask : (t : Table) (e : List ℕ) (P : Result Ask Refusal → Type 0) → ((r : Refusal) → answer_of t e ≡ refuse (refusal_number r) t → P (Err r))
     → ((q : Ask) → Asked t q → answer_of t e ≡ asked_event t q → P (Ok q)) → P (ask_of t.machine_count t.entry_count e)
 unfolding ask_of answer_of
 by_ask t e P refused asked =
@@ -157,6 +158,11 @@ ask_accepted t e q =
     by_ask t e (λ x. x ≡ Ok q → Asked t q × (answer_of t e ≡ asked_event t q))
     (λ r y z. absurd (cc))
     (λ p k y z. let i : p ≡ q = cc in subst (λ (o : Ask). Asked t o × (answer_of t e ≡ asked_event t o)) i (k, y))
+
+-- an event past Done is that of its code, with its numbers in the table
+pub by_value : (t : Table) (e : List ℕ) (q : Ask) → ask_of t.machine_count t.entry_count e ≡ Ok q → DIE ≤ code_number q.code
+    → (indices_in_range t (code_number q.code) q.a q.b ≡ true) × (answer_of t e ≡ event_of t (code_number q.code) q.a q.b)
+by_value t e q o g = let k = ask_accepted t e q o in (k.0.indices, k.1)
 
 -- P of what is asked, by its code
 by_asked : (t : Table) (q : Ask) → Asked t q → (P : Ask → Type 0) → Coded t q.a q.b (λ c o. asked_event t q ≡ o → P (ask c q.a q.b)) → P q
@@ -221,6 +227,20 @@ numbered t x low q o =
     number_is : {a : Answer} → asked_event t q ≡ a → (asked_event t q).number ≡ a.number
     number_is y = ap (λ (a : Answer). a.number) y
 
+-- the number of what the bytes ask for: the refusal's where 10 or 11 refuses it, else that of the event on the parts where it looks
+abbrev pub number_in : Table → Message → Option ℕ → Result Ask Refusal → ℕ
+number_in t x low (Err r) = refusal_number r
+number_in t x low (Ok q) =
+    let w = place_of q x low in
+    number_of q (parts_at t w.machine w.job) (machine_at t w.peer) (told_in t w) t.in_flight (slot_of t q) t.machine_count
+
+-- so of any bytes it is that of document 01
+pub numbered_bytes : (t : Table) (e : List ℕ) (x : Message) (low : Option ℕ) (o : Result Ask Refusal) → o ≡ ask_of t.machine_count t.entry_count e
+    → number_in t x low o ≡ (answer_of t e).number
+numbered_bytes t e x low (Err r) h = sym (ap (λ (a : Answer). a.number) (ask_refused t e r (sym h)))
+numbered_bytes t e x low (Ok q) h =
+    let k = ask_accepted t e q (sym h) in numbered t x low q k.0 ∙ sym (ap (λ (a : Answer). a.number) k.1)
+
 -- ---- the change
 
 taken_none : (t : Table) (k : ℕ) → k ≡ t.in_flight → taken t k ≡ t
@@ -282,7 +302,31 @@ module _ (t : Table) (x : Message) (low : Option ℕ) (slot : ℕ) (hx : x ≡ m
         join = λ y s c f. absurd (omega arith);
       })
 
+  -- the same of the bytes that ask for it
+  pub changed_bytes : (e : List ℕ) (q : Ask) → ask_of t.machine_count t.entry_count e ≡ Ok q → slot ≡ slot_of t q → code_number q.code < DIE
+      → (answer_of t e).number ≡ 0 → made_in t q x low slot ≡ (answer_of t e).table
+  changed_bytes e q o s c f =
+      let k = ask_accepted t e q o in
+      changed q k.0 s c (ap (λ (a : Answer). a.number) (sym k.1) ∙ f) ∙ sym (ap (λ (a : Answer). a.table) k.1)
+
 -- ---- what is sent
+
+module _ (t : Table) (r : Ready t) (x : Message) (low : Option ℕ) (i : Within x) where
+  -- it goes to a machine
+  pub sent_to : (q : Ask) → Asked t q → ToMachine (change_in t q x low).sent
+  unfolding place_of change_of admit_change steal_change start_change done_change silent message result
+  sent_to q o =
+      by_asked t q o (λ y. ToMachine (change_in t y x low).sent)
+      (record {
+        admit = λ h y. to_none;
+        steal = λ h k y. to_some _ (omega (arith, r.machine_count));
+        deliver = λ y. handle_to _ x _ low i;
+        start = λ h k y. to_none;
+        done = λ h k y. to_some _ (omega arith);
+        die = λ h k y. to_none;
+        notice = λ h k y. to_none;
+        join = λ y. to_none;
+      })
 
 -- with every slot taken nothing is stored: what sends with no message taken off has been refused 16, or sends to a dead machine
 module _ (t : Table) (x : Message) (low : Option ℕ) (slot : ℕ) (g : 128 ≤ t.in_flight) where
@@ -319,6 +363,15 @@ module _ (t : Table) (x : Message) (low : Option ℕ) (slot : ℕ) (g : 128 ≤ 
         notice = λ h k y s l c f. absurd (omega arith);
         join = λ y s l c f. absurd (omega arith);
       })
+
+  -- the same of the bytes that ask for it
+  pub stores_none_bytes : (e : List ℕ) (q : Ask) → ask_of t.machine_count t.entry_count e ≡ Ok q
+      → let w = place_of q x low in
+      let c = change_in t q x low in
+      slot ≡ slot_of t q → t.in_flight ≤ slot → code_number q.code < DIE → (answer_of t e).number ≡ 0
+      → stored c.sent (written t w.machine w.job c).machines ≡ None
+  stores_none_bytes e q o s l d f =
+      let k = ask_accepted t e q o in stores_none q k.0 s l d (ap (λ (a : Answer). a.number) (sym k.1) ∙ f)
 
 -- ---- Steal
 

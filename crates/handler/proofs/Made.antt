@@ -2,23 +2,21 @@
 -- And which parts these are: the lowest job is the table's, and the job is one of the 64. Assumes nothing.
 use mathlib.Core.Path.{◌≡◌}
 use Prim.Native.Nat.{ℕ, ◌<◌}
-use mathlib.Core.List.{List}
 use lib.Dec.{eqb}
 use borrow.Author.Tests.{eqb-true, eq-eqb}
-use native.Mathlib.Omega.{arith}
-use Rattle.std.proofs.Common.{Option, unwrap_or}
+use Rattle.std.proofs.Common.{Option}
 use Rattle.lists.proofs.Cases.{by_bool, cond_elim}
 use Rattle.table.specs.declared.Message.{Message}
 use Rattle.table.specs.declared.Table.{Table}
 use Rattle.table.specs.Views.{told_at}
 use Rattle.table.specs.Pools.{lowest}
 use Rattle.table.specs.Parts.{FISH, REQ, AUTH, DENIED, OBSOLETE, SCHEDULE, ACK, NOWORK, RESULT}
-use Rattle.protocol_pools.proofs.LowestIn.{lowest_in_lem, job_below}
-use Rattle.protocol_pools.specs.Lowest.{job_of, lowest_in}
+use Rattle.protocol_pools.proofs.LowestIn.{lowest_in_lem}
+use Rattle.protocol_pools.specs.Lowest.{job_of}
 use Rattle.protocol_change.specs.Change.{parts_at, made}
 use Rattle.protocol_change.proofs.Made.{made_silent}
 use Rattle.handler_victim.specs.VictimParts.{fish_job}
-use Rattle.handler_victim.proofs.Made.{made_fish, made_auth, made_denied, made_obsolete}
+use Rattle.handler_victim.proofs.Made.{fish_job_below, made_fish, made_auth, made_denied, made_obsolete}
 use Rattle.handler_thief.proofs.Made.{made_schedule, made_no_work}
 use Rattle.handler_root.proofs.Made.{made_req, made_ack, made_result}
 use Rattle.handler.specs.Handler.{handle}
@@ -29,15 +27,10 @@ pub lowest_for_lem : (t : Table) (m : Message) → m.kind ≡ FISH → lowest_fo
 unfolding lowest_for
 lowest_for_lem t m e = rw (eq-eqb m.kind FISH e) (lowest_in_lem t m.to)
 
-lowest_below : (m : Message) (pools : List ℕ) → unwrap_or (lowest_for m pools) 0 < 64
-unfolding lowest_for lowest_in
-lowest_below m pools = by_bool (eqb m.kind FISH) (λ a. rw a (job_below _)) (λ a. rw a (omega arith))
-
 -- the job is one of the 64, where the message's is
-pub handled_job_below : (m : Message) (pools : List ℕ) → m.job < 64 → handled_job m (lowest_for m pools) < 64
-unfolding handled_job fish_job
-handled_job_below m pools l =
-    let low = lowest_for m pools in cond_elim (λ j. j < 64) (eqb m.kind FISH) (fish_job low) m.job (lowest_below m pools) l
+pub handled_job_below : (m : Message) (low : Option ℕ) → m.job < 64 → handled_job m low < 64
+unfolding handled_job
+handled_job_below m low l = cond_elim (λ j. j < 64) (eqb m.kind FISH) (fish_job low) m.job (fish_job_below low) l
 
 module _ (t : Table) (m : Message) (low : Option ℕ) (is_lowest : m.kind ≡ FISH → low ≡ job_of (lowest t m.to)) where
   pub made_handle : made t m.to (handled_job m low) (handle_change (parts_at t m.to (handled_job m low)) m (told_at t 0 m.thief) low) ≡ handle t m

@@ -1,8 +1,10 @@
 -- What a victim makes of itself and of a cell in its pool, made on a table, is what specs/Victim.antt says. Assumes nothing.
 use mathlib.Core.Path.{◌≡◌}
 use mathlib.Core.Bool.{not, cond}
-use Prim.Native.Nat.{ℕ, max}
+use Prim.Native.Nat.{ℕ, max, ◌<◌}
 use lib.Dec.{eqb, leb}
+use borrow.Author.Tests.{leb-false}
+use native.Mathlib.Omega.{arith}
 use Rattle.std.proofs.Common.{Option, None, Some}
 use Rattle.lists.proofs.Cases.{by_bool}
 use Rattle.table.specs.declared.Machine.{Machine}
@@ -16,6 +18,12 @@ use Rattle.protocol_change.proofs.Made.{made_silent, made_sent, made_machine, ma
 use Rattle.handler_victim.specs.Victim.{no_work, grant, on_fish, on_auth, on_denied, on_obsolete}
 use Rattle.handler_victim.specs.VictimParts.{no_work_from, fish_job, fish_change, auth_change, denied_change, obsolete_change}
 use Rattle.handler_victim.proofs.Reserved.{reserves_job_lem, reserves_replica}
+
+-- the job whose cell a FISH looks at is one of the 64
+pub fish_job_below : (low : Option ℕ) → fish_job low < 64
+unfolding fish_job
+fish_job_below None = omega arith
+fish_job_below (Some j) = by_bool (leb 64 j) (λ a. rw a (omega arith)) (λ a. rw a (leb-false 64 j a))
 
 module _ (t : Table) (m : Message) where
   abbrev n : Machine
@@ -31,8 +39,8 @@ module _ (t : Table) (m : Message) where
       let no = Some (no_work_from m.to m.from) in
       by_bool (leb 64 job)
       (λ b. by_bool (not (eqb n.reserved_replica 0)) (λ a. rw (e, b, a) (made_sent t m.to 0 no)) (λ a. rw (e, b, a) (made_sent t m.to 0 no)))
-      (λ b. by_bool (not (eqb n.reserved_replica 0)) (λ a. rw (e, b, a) (made_sent t m.to job no))
-      (λ a. rw (e, b, a)
+      (λ b. by_bool (not (eqb n.reserved_replica 0)) (λ a. rw (e, b, b, a) (made_sent t m.to job no))
+      (λ a. rw (e, b, b, a)
       (made_machine_cell t m.to job (reserve n job (pool_at t m.to job) m.from) 0 (Some (message REQ m.to 0 job (pool_at t m.to job) m.from)))))
 
   pub made_auth : made t m.to m.job (auth_change (parts_at t m.to m.job) m) ≡ on_auth t m

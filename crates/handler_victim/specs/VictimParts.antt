@@ -1,6 +1,6 @@
 -- Document 01, "The table", "Handling, by kind", FISH, AUTH, DENIED and OBSOLETE: what a victim makes of itself and of the cell in its pool that a
 -- message to it is about. On a table this is specs/Victim.antt (proofs/Made.antt). Definitions only.
-use Rattle.std.specs.Prelude.{Bool, not, cond, ℕ, max, eqb, unwrap_or, Option, None, Some}
+use Rattle.std.specs.Prelude.{Bool, not, cond, ◌||◌, ℕ, max, eqb, leb, Option, None, Some}
 use Rattle.table.specs.declared.Message.{Message}
 use Rattle.table.specs.Parts.{reserve, release, reserves, message, REQ, SCHEDULE, NOWORK}
 use Rattle.protocol_change.specs.declared.Parts.{Parts}
@@ -11,20 +11,21 @@ use Rattle.protocol_change.specs.Change.{silent}
 abbrev pub no_work_from : ℕ → ℕ → Message
 no_work_from b th = message NOWORK b th 0 0 0
 
--- the job whose cell a FISH looks at: "the lowest job", 0 where there is none
+-- the job whose cell a FISH looks at: "the lowest job", 0 where there is none. A number of 64 or more is no job's.
 unfoldable pub fish_job : Option ℕ → ℕ
-fish_job low = unwrap_or low 0
+fish_job None = 0
+fish_job (Some j) = cond (leb 64 j) 0 j
 
 -- no copy is given: the sender of the FISH gets NOWORK, and nothing else happens
 abbrev pub no_copy : Parts → Message → Change
 no_copy p m = record { job = p.job; machine = p.machine; cell = p.cell; sent = Some (no_work_from m.to m.from) }
 
 -- "FISH from t: with a reserved copy or an empty pool, send t NOWORK; otherwise the lowest job leaves the pool and becomes the copy reserved for t,
--- and REQ (job, replica, t) goes to the root." The last is the lowest job, none where the pool is empty.
+-- and REQ (job, replica, t) goes to the root." The last is the lowest job, none or 64 or more where the pool is empty.
 unfoldable pub fish_change : Parts → Message → Option ℕ → Change
 fish_change p m None = no_copy p m
 fish_change p m (Some j) =
-    cond (not (eqb p.machine.reserved_replica 0))
+    cond (not (eqb p.machine.reserved_replica 0) || leb 64 j)
     (no_copy p m)
     (record {
       job = p.job;

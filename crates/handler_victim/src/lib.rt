@@ -30,12 +30,15 @@ fn no_work(from: u8, to: u8) -> Message
     }
 }
 
-// The job whose cell a FISH looks at: the lowest, 0 where there is none.
+// The job whose cell a FISH looks at: the lowest, 0 where there is none. A number of 64 or more is no job's.
 #[tactic(auto, unfolding(crate::specs::VictimParts::fish_job))]
 pub fn fish_job(low: Option<u8>) -> usize
     ensures { result ≡ fish_job low }
 {
-    low.unwrap_or(0) as usize
+    match low {
+        Some(job) if job < 64 => job as usize,
+        _ => 0,
+    }
 }
 
 // The lowest job of the pool is reserved for the thief, or the thief gets NOWORK.
@@ -44,7 +47,7 @@ pub fn on_fish(p: Parts, m: Message, low: Option<u8>) -> Change
     ensures { result ≡ fish_change p m low }
 {
     match low {
-        Some(job) if p.machine.reserved_replica == 0 => Change {
+        Some(job) if (p.machine.reserved_replica == 0) & (job < 64) => Change {
             machine: Machine {
                 reserved_job: job,
                 reserved_replica: p.cell,

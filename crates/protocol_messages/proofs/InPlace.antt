@@ -1,6 +1,7 @@
 -- What the loop that moves messages up leaves, and the slot written after it, are a message taken off and one sent. Assumes nothing.
 use Prim.Native.Nat.{ℕ, ◌+◌, ◌-◌, ◌≤◌, ◌<◌}
 use mathlib.Core.Path.{◌≡◌, refl, sym, ap, ◌∙◌}
+use mathlib.Core.Bool.{true, not}
 use mathlib.Core.List.{List, ◌++◌}
 use native.Mathlib.Omega.{arith}
 use borrow.Author.Tests.{ltb-true, ltb-false, lt-ltb, le-ltb}
@@ -39,17 +40,20 @@ settled t k l =
     with_messages t (counted (kept k t.in_flight) l)
     (set (moved_up t k (kept k t.in_flight)).messages (kept k t.in_flight) (unwrap_or l no_message))
 
--- nothing is sent, or it is stored where the machine lives
+-- nothing is sent, or a message of no kind, which is none; else it is stored where the machine lives
 sent_by : (P : Option Message → Table → Type 0) (u : Table) (x : Option Message)
-    → P None u → ((m : Message) → P (Some m) (push u m)) → P (stored x u.machines) (send_some u x)
+    → P None u → ((m : Message) → not (eqb m.kind 0) ≡ true → P (Some m) (push u m)) → P (stored x u.machines) (send_some u x)
 unfolding stored send_some send machine_at
 sent_by P u None none some = none
 sent_by P u (Some m) none some =
-    by_bool (eqb (machine_at u m.to).alive 1) (λ f. rw (f, stored, send_some, send) (some m)) (λ f. rw (f, stored, send_some, send) none)
+    by_bool (eqb m.kind 0) (λ e. rw (e, stored, send_some) none)
+    (λ e. by_bool (eqb (machine_at u m.to).alive 1)
+    (λ f. rw (e, f, stored, send_some, send) (some m (ap not e)))
+    (λ f. rw (e, f, stored, send_some, send) none))
 
 -- what is stored nowhere changes nothing
 sent_none : (u : Table) (x : Option Message) → stored x u.machines ≡ None → u ≡ send_some u x
-sent_none u x = sent_by (λ y v. y ≡ None → u ≡ v) u x (λ z. refl) (λ m z. absurd (cc))
+sent_none u x = sent_by (λ y v. y ≡ None → u ≡ v) u x (λ z. refl) (λ m g z. absurd (cc))
 
 pub kept_none : (k n : ℕ) → n ≤ k → kept k n ≡ n
 unfolding kept
@@ -91,9 +95,9 @@ module _ (t : Table) (k : ℕ) (x : Option Message) (l : length t.messages ≡ 1
       sent_by (λ y v. settled t k y ≡ v) (remove_at t k) x
       (ap (λ (j : ℕ). with_messages t j (set (take j (without k t.messages) ++ drop j t.messages) j no_message)) e
       ∙ ap (λ (y : List Message). with_messages t n y) (shift_off no_message k t.messages n m refl (omega arith) (omega arith) q))
-      (λ w.
-      ap (λ (j : ℕ). with_messages t (j + 1) (set (take j (without k t.messages) ++ drop j t.messages) j w)) e
-      ∙ ap (λ (y : List Message). with_messages t (n + 1) y) (shift_last no_message k t.messages n m w refl (omega arith) (omega arith) q))
+      (λ w g.
+      ap (λ (j : ℕ). with_messages t (counted j (Some w)) (set (take j (without k t.messages) ++ drop j t.messages) j w)) e
+      ∙ rw g (ap (λ (y : List Message). with_messages t (n + 1) y) (shift_last no_message k t.messages n m w refl (omega arith) (omega arith) q)))
 
   none_off : k ≡ t.in_flight → k < 128 → settled t k (stored x t.machines) ≡ send_some t x
   unfolding counted push parts
@@ -107,10 +111,9 @@ module _ (t : Table) (k : ℕ) (x : Option Message) (l : length t.messages ≡ 1
       ∙ ap (λ (y : Message). with_messages t k (set t.messages k y)) (sym z)
       ∙ ap (λ (y : List Message). with_messages t k y) (set-get_or t.messages k no_message)
       ∙ ap (λ (j : ℕ). with_messages t j t.messages) b)
-      (λ w.
-      ap (λ (j : ℕ). with_messages t (j + 1) (set (take j (without k t.messages) ++ drop j t.messages) j w)) e
-      ∙ ap (λ (y : List Message). with_messages t (k + 1) (set y k w)) m
-      ∙ ap (λ (j : ℕ). with_messages t (j + 1) (set t.messages j w)) b)
+      (λ w g.
+      ap (λ (j : ℕ). with_messages t (counted j (Some w)) (set (take j (without k t.messages) ++ drop j t.messages) j w)) e
+      ∙ rw g (ap (λ (y : List Message). with_messages t (k + 1) (set y k w)) m ∙ ap (λ (j : ℕ). with_messages t (j + 1) (set t.messages j w)) b))
 
   pub settled_is : k ≤ t.in_flight → kept k t.in_flight < 128 → settled t k (stored x t.machines) ≡ send_some (taken t k) x
   unfolding taken

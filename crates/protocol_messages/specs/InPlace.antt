@@ -1,5 +1,5 @@
 -- Messages changed in place: one is taken off, or none, and then one is sent, or none. Definitions only.
-use Rattle.std.specs.Prelude.{cond, List, ℕ, ◌+◌, ◌-◌, eqb, ltb, get_or, is_some, Option, None, Some}
+use Rattle.std.specs.Prelude.{not, cond, ◌&&◌, List, ℕ, ◌+◌, ◌-◌, eqb, ltb, get_or, Option, None, Some}
 use Rattle.table.specs.declared.Machine.{Machine}
 use Rattle.table.specs.declared.Message.{Message}
 use Rattle.table.specs.declared.Table.{Table}
@@ -14,11 +14,12 @@ taken t k = cond (ltb k t.in_flight) (remove_at t k) t
 unfoldable pub kept : ℕ → ℕ → ℕ
 kept slot used = cond (ltb slot used) (used - 1) used
 
--- what is stored of what is sent to one of these machines
+-- what is stored of what is sent to one of these machines; a message of kind 0 is none
 unfoldable pub stored : Option Message → List Machine → Option Message
 stored None machines = None
-stored (Some m) machines = cond (eqb (get_or machines m.to no_machine).alive 1) (Some m) None
+stored (Some m) machines = cond (not (eqb m.kind 0) && eqb (get_or machines m.to no_machine).alive 1) (Some m) None
 
 -- how many are in flight with it
 unfoldable pub counted : ℕ → Option Message → ℕ
-counted keep m = cond (is_some m) (keep + 1) keep
+counted keep None = keep
+counted keep (Some m) = cond (not (eqb m.kind 0)) (keep + 1) keep

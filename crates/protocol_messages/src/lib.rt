@@ -24,14 +24,14 @@ pub fn kept(slot: usize, used: usize) -> usize
     if slot < used { used - 1 } else { used }
 }
 
-// What is stored of what is sent to one of the machines: "A message to a dead machine is stored nowhere."
+// What is stored of what is sent to one of the machines: "A message to a dead machine is stored nowhere." One of kind 0 is none.
 #[tactic(auto, unfolding(crate::specs::InPlace::stored))]
 pub fn stored(sent: Option<Message>, machines: &[Machine; 16]) -> Option<Message>
     ensures { result ≡ stored sent machines.now }
 {
     let m = sent?;
     match machines.get(m.to as usize) {
-        Some(to) if to.alive == 1 => Some(m),
+        Some(to) if (m.kind != 0) & (to.alive == 1) => Some(m),
         _ => None,
     }
 }
@@ -43,7 +43,10 @@ pub fn counted(keep: usize, m: Option<Message>) -> u8
     ensures { result ≡ counted keep m }
 {
     let n = keep as u8;
-    if m.is_some() { n + 1 } else { n }
+    match m {
+        Some(m) if m.kind != 0 => n + 1,
+        _ => n,
+    }
 }
 
 // Only the messages that stay are in flight, in their order.
