@@ -1,14 +1,19 @@
--- Laws of a text written over a buffer: one text after or before another, one more character. Assumes nothing.
+-- Laws of a text written over a buffer: what stands before it, one text after or before another, one more character. Assumes nothing.
 use Prim.Native.Nat.{ℕ, zero, suc, ◌+◌, ◌*◌, ◌≤◌, ◌<◌}
 use mathlib.Core.Path.{◌≡◌, sym, ap, ◌∙◌}
 use mathlib.Core.List.{List, [], ◌∷◌, ◌++◌, append_assoc}
 use native.Mathlib.Nat.{suc-mul}
 use native.Mathlib.Omega.{arith}
 use native.Mathlib.Numerals.{add-one}
-use lib.ListN.{length, take, drop, set, length-append}
-use lib.Seq.{paste-zero, length-take-le, take_at, take-take, take-append-le, drop_at, drop-drop}
-use lib.Seq.{take-set-le, set_split, append_snoc}
+use lib.ListN.{length, take, drop, set, get_or, length-append, get_or-append}
+use lib.Seq.{paste, paste-zero, take-length, length-take-le, take_at, take-take, take-suc, take-append-le, drop_at, drop-drop}
+use lib.Seq.{take-set-le, set_at, set_split, append_snoc, paste-suc, get_or-take}
 use Rattle.text.specs.Text.{over, onto, Written, joined}
+
+-- a copy of all of s is s written over
+pub over_paste : (d : List ℕ) (at : ℕ) (s : List ℕ) → paste d at s (length s) ≡ over d at s
+unfolding over
+over_paste d at s = rw (take-length s)
 
 pub over_none : (d : List ℕ) (at : ℕ) → over d at [] ≡ d
 unfolding over
@@ -57,6 +62,28 @@ module _ (d : List ℕ) (at : ℕ) (a : List ℕ) where
       ∙ ap (λ (y : List ℕ). y ++ drop (suc n) d) (append_assoc (take at d) a (x ∷ []))
       ∙ ap (λ (k : ℕ). take at d ++ (a ++ (x ∷ [])) ++ drop k d) m
 
+-- what stands before the text is as it was
+pub over_before : (d : List ℕ) (at : ℕ) (w : List ℕ) (i : ℕ) → at ≤ length d → i < at → get_or (over d at w) i 0 ≡ get_or d i 0
+unfolding over
+over_before d at w i h k =
+    let l : length (take at d) ≡ at = length-take-le at d h in
+    rw (append_assoc (take at d) w (drop (at + length w) d))
+    (get_or-append (take at d) (w ++ drop (at + length w) d) 0 i (omega arith) ∙ get_or-take at d i 0 k)
+
+-- one character more, in front
+pub over_front : (d : List ℕ) (at : ℕ) (w : List ℕ) (x : ℕ) → at < length d → set (over d (suc at) w) at x ≡ over d at (x ∷ w)
+unfolding over
+over_front d at w x h =
+    let r : List ℕ = drop (suc at + length w) d in
+    let y : ℕ = get_or d at 0 in
+    let l : length (take at d) ≡ at = length-take-le at d (omega arith) in
+    let m : suc at + length w ≡ at + suc (length w) = omega arith in
+    let a : (take (suc at) d ++ w) ++ r ≡ take at d ++ (y ∷ (w ++ r)) = rw (take-suc d at 0 h) (simp append_assoc) in
+    ap (λ (z : List ℕ). set z at x) a
+    ∙ set_at (take at d) y (w ++ r) x at l
+    ∙ sym (append_assoc (take at d) (x ∷ w) r)
+    ∙ ap (λ (k : ℕ). (take at d ++ (x ∷ w)) ++ drop k d) m
+
 -- one text before another
 pub over_below : (d : List ℕ) (at : ℕ) (w p : List ℕ) → at + length w ≤ length d → over (over d (at + length w) p) at w ≡ over d at (w ++ p)
 unfolding over
@@ -74,6 +101,12 @@ over_below d at w p h =
     (sym (append_assoc (take at d ++ w) p r)
     ∙ ap (λ (y : List ℕ). y ++ r) (append_assoc (take at d) w p)
     ∙ ap (λ (j : ℕ). (take at d ++ (w ++ p)) ++ drop j d) m)
+
+-- ---- a copy, byte by byte
+
+pub paste_more : (d : List ℕ) (at : ℕ) (s : List ℕ) (j o : ℕ) (e : List ℕ) → at + length s ≤ length d → j < length s → o ≡ at + j → e ≡ paste d at s j
+    → set e o (get_or s j 0) ≡ paste d at s (j + 1)
+paste_more d at s j o e f h p q = rw (add-one j, q, p) (paste-suc d at s j 0 (omega arith) h)
 
 -- ---- a function that writes, after another
 

@@ -22,15 +22,15 @@ impl<'a> Cursor<'a> {
         Cursor { out, at }
     }
 
-    // Writes s.
-    #[tactic(auto, unfolding(crate::specs::Text::over))]
+    // Writes s, a byte at a time: the library's copy of a slice may be C's memmove, which the static library would then need from outside.
     pub fn put(&mut self, s: &[u8])
         requires { Room self.old (length s.now) }
         ensures { Writes self.old s.now self.new }
     {
-        let end = self.at + s.len();
-        self.out[self.at..end].copy_from_slice(s);
-        self.at = end;
+        for (i, b) in s.iter().enumerate() {
+            self.out[self.at + i] = *b;
+        }
+        self.at += s.len();
     }
 
     // Writes the lowest digits of x, as many as width says, in a base of up to 16; the last digit is written first.
