@@ -21,17 +21,23 @@ fn read(bytes: &[u8]) -> Result<Table, Refusal>
         return Err(Refusal::TableOutOfOrder);
     }
     let t = snapshot_read::decode(bytes);
-    if !validity::table_ok(t) {
+    if !validity::passes(&t) {
         return Err(Refusal::TableOutOfOrder);
     }
     Ok(t)
 }
 
-// Check 9 of the bytes.
+// Check 9 of the bytes. The table is not kept, and so does not come from `read`.
+#[tactic(auto, using(crate::proofs::Answers::decodable_length), unfolding(crate::specs::Snapshot::check_of))]
 pub fn check(table: &[u8]) -> Result<(), Refusal>
     ensures { answer_of result ≡ check_of table.now }
 {
-    read(table)?;
+    if !snapshot_read::decodable(table) {
+        return Err(Refusal::TableOutOfOrder);
+    }
+    if !validity::passes(&snapshot_read::decode(table)) {
+        return Err(Refusal::TableOutOfOrder);
+    }
     Ok(())
 }
 
@@ -49,16 +55,15 @@ pub fn step(table: &mut [u8], event: &[u8]) -> Result<(), Refusal>
 }
 
 // Opens a book into a buffer of a snapshot's length: the bytes of the fresh table, or the refusal of the book, or that of bytes that are no table.
-#[tactic(auto, using(refusal::proofs::Numbers::number_positive), unfolding(crate::specs::Snapshot::open_number, crate::specs::Snapshot::open_bytes))]
 pub fn open(book: &[u8], table: &mut [u8]) -> Result<(), Refusal>
     ensures value { answer_of result ≡ open_number book.now table.old }
     ensures table_after { table.new ≡ open_bytes book.now table.old }
 {
-    book::verdict(book)?;
+    let t = table_opening::open(book)?;
     if table.len() != snapshot_read::TABLE_SIZE {
         return Err(Refusal::TableOutOfOrder);
     }
-    snapshot_write::encode(&table_opening::fresh(book), table);
+    snapshot_write::encode(&t, table);
     Ok(())
 }
 

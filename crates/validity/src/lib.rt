@@ -27,6 +27,20 @@ fn each<T: Copy, F: Fn(u8, T) -> bool>(items: &[T], test: F) -> bool
     ok
 }
 
+// The same, of items of which one that does not pass is the last to be looked at: each test is long, and made of one item at a time in any case.
+fn every<T: Copy, F: Fn(u8, T) -> bool>(items: &[T], test: F) -> bool
+    requires few { length items.now ≤ 256 }
+    requires callable { (i : ℕ) (x : T) → i < length items.now → F.pre test i x }
+    ensures { (n : ℕ) (d : T) (p : ℕ → Bool) → length items.now ≡ n → Tells (F.post test) items.now d p → result ≡ all p n }
+{
+    for (i, x) in items.iter().enumerate() {
+        if !test(i as u8, *x) {
+            return false;
+        }
+    }
+    true
+}
+
 fn sizes_ok(t: &Table) -> bool
     ensures { result ≡ sizes_ok t.now }
 {
@@ -57,21 +71,21 @@ fn bonds_ok(t: &Table) -> bool
     ensures { result ≡ bonds_ok t.now }
 {
     let entries = t.entry_count;
-    each(&t.bonds, |j, x| validity_element::bond_ok(entries, j, x))
+    every(&t.bonds, |j, x| validity_element::bond_ok(entries, j, x))
 }
 
 fn jobs_ok(t: &Table, b: u8) -> bool
     ensures { result ≡ jobs_ok t.now b }
 {
     let limits = limits(t, b);
-    each(&t.jobs, |j, v| limits.job_ok(j, v))
+    every(&t.jobs, |j, v| limits.job_ok(j, v))
 }
 
 fn machines_ok(t: &Table, b: u8) -> bool
     ensures { result ≡ machines_ok t.now b }
 {
     let limits = limits(t, b);
-    each(&t.machines, |m, n| limits.machine_ok(m, n))
+    every(&t.machines, |m, n| limits.machine_ok(m, n))
 }
 
 // Of each number that a byte may have, whether that machine is alive: 1 or 0, and 0 where there is none. Made once, and lent.
@@ -102,7 +116,7 @@ fn pool_row(t: &Table, b: u8, m: u8) -> bool
 fn pools_ok(t: &Table, b: u8) -> bool
     ensures { result ≡ pools_ok t.now b }
 {
-    each(&t.machines, |m, _| pool_row(t, b, m))
+    every(&t.machines, |m, _| pool_row(t, b, m))
 }
 
 fn messages_ok(t: &Table, b: u8, alive: &[u8; 256]) -> bool
@@ -111,7 +125,7 @@ fn messages_ok(t: &Table, b: u8, alive: &[u8; 256]) -> bool
 {
     let limits = limits(t, b);
     let used = t.in_flight;
-    each(
+    every(
         &t.messages,
         |i, m| validity_message::slot_ok(limits, used, i, alive[m.to as usize], m),
     )
@@ -141,7 +155,7 @@ fn tolds_ok(t: &Table, alive: &[u8; 256]) -> bool
     requires { (k : ℕ) → get_or alive.now k 0 ≡ (machine_at t.now k).alive }
     ensures { result ≡ tolds_ok t.now }
 {
-    each(&t.machines, |m, _| told_row(t, alive, m))
+    every(&t.machines, |m, _| told_row(t, alive, m))
 }
 
 // Whether each element passes its test.
@@ -162,22 +176,36 @@ fn elements_ok(t: &Table) -> bool
 }
 
 // How many jobs are open: a full recount.
-pub fn recount(t: Table) -> u8
-    ensures { result ≡ recount t }
+fn open_in(t: &Table) -> u8
+    ensures { result ≡ recount t.now }
 {
     t.jobs.iter().filter(|v| v.state == table::OPEN).count() as u8
 }
 
-// Whether each number that is kept of a whole array is that of the array.
-fn counts_ok(t: Table) -> bool
-    ensures { result ≡ counts_ok t }
+// The same, of a table by value.
+pub fn recount(t: Table) -> u8
+    ensures { result ≡ recount t }
 {
-    t.open_jobs == recount(t)
+    open_in(&t)
 }
 
-// Whether the table passes check 9: false for any table that refusal 9 is for.
+// Whether each number that is kept of a whole array is that of the array.
+fn counts_ok(t: &Table) -> bool
+    ensures { result ≡ counts_ok t.now }
+{
+    t.open_jobs == open_in(t)
+}
+
+// Whether a lent table passes check 9: false for any table that refusal 9 is for.
+pub fn passes(t: &Table) -> bool
+    ensures { result ≡ table_ok t.now }
+{
+    elements_ok(t) & counts_ok(t)
+}
+
+// The same, of a table by value.
 pub fn table_ok(t: Table) -> bool
     ensures { result ≡ table_ok t }
 {
-    elements_ok(&t) & counts_ok(t)
+    passes(&t)
 }

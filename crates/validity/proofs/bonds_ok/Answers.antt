@@ -7,4 +7,4 @@ use Rattle.validity.proofs.bonds_ok.Goals as goal
 
 pub returns : goal.returns
 unfolding bonds_ok parts
-returns c = c.each.ensures 64 past_bond _ (omega arith) (λ i r h q. search rules)
+returns c = c.every.ensures 64 past_bond _ (omega arith) (λ i r h q. search rules)

@@ -5,4 +5,4 @@ use Rattle.validity.proofs.counts_ok.Goals as goal
 
 pub returns : goal.returns
 unfolding counts_ok
-returns c = rw c.recount.ensures
+returns c = rw c.open_in.ensures

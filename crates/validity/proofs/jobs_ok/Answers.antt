@@ -7,4 +7,4 @@ use Rattle.validity.proofs.jobs_ok.Goals as goal
 
 pub returns : goal.returns
 unfolding jobs_ok parts
-returns c = c.each.ensures 64 no_job _ (omega arith) (λ i r h q. search rules)
+returns c = c.every.ensures 64 no_job _ (omega arith) (λ i r h q. search rules)

@@ -7,4 +7,4 @@ use Rattle.validity.proofs.machines_ok.Goals as goal
 
 pub returns : goal.returns
 unfolding machines_ok parts
-returns c = c.each.ensures 16 no_machine _ (omega arith) (λ i r h q. search rules)
+returns c = c.every.ensures 16 no_machine _ (omega arith) (λ i r h q. search rules)

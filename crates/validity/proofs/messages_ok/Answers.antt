@@ -8,7 +8,7 @@ use Rattle.validity.proofs.messages_ok.Goals as goal
 
 pub returns : goal.returns
 unfolding messages_ok parts
-returns c = c.each.ensures 128 no_message _ (omega arith) (λ i r h q.
+returns c = c.every.ensures 128 no_message _ (omega arith) (λ i r h q.
     let t = c.args.t.now in
     let m = get_or t.messages i no_message in
     let e : r ≡ slot_ok t.machine_count t.entry_count c.args.b t.in_flight i (get_or c.args.alive.now m.to 0) m = search rules in

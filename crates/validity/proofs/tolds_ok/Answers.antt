@@ -7,4 +7,4 @@ use Rattle.validity.proofs.tolds_ok.Goals as goal
 
 pub returns : goal.returns
 unfolding tolds_ok
-returns c = c.each.ensures 16 no_machine _ (omega arith) (λ i r h q. search rules)
+returns c = c.every.ensures 16 no_machine _ (omega arith) (λ i r h q. search rules)

@@ -1,7 +1,7 @@
--- `validity::table_ok` meets its contract. The definition joins what the two functions that it calls equal.
+-- `validity::passes` meets its contract. The definition joins what the two functions that it calls equal.
 -- Assumes nothing.
 use Rattle.validity.specs.Validity.{table_ok}
-use Rattle.validity.proofs.table_ok.Goals as goal
+use Rattle.validity.proofs.passes.Goals as goal
 
 pub returns : goal.returns
 unfolding table_ok
