@@ -1,4 +1,4 @@
--- The buffer that the code leaves is the grown book and what followed. Assumes nothing.
+-- The buffer that the code leaves is the grown book and what followed; and the two ends of `add`. Assumes nothing.
 use Prim.Native.Nat.{ℕ, ◌+◌, ◌*◌, ◌≤◌, ◌<◌}
 use mathlib.Core.Path.{◌≡◌, sym, ap, ◌∙◌}
 use mathlib.Core.List.{List, ◌∷◌, ◌++◌, append_assoc}
@@ -12,7 +12,7 @@ use Rattle.book.specs.Parts.{machine_count_of, entry_count_of}
 use Rattle.book_writer.specs.Writer.{head, laid, identifiers, terms, grown, onto, add_number, add_bytes}
 use Rattle.book.proofs.Accepted.{whole_length, count_byte}
 use Rattle.book_writer.proofs.Laid.{laid_head, own_laid, own_long}
-use Rattle.book_writer.proofs.Answers.{Adds, twelve, nineteen, number_adds, adds_size, added_accepted}
+use Rattle.book_writer.proofs.Answers.{Adds, twelve, nineteen, number_adds, adds_size, added_accepted, added_refused}
 
 -- ---- the two parts of a book around the new identifier
 
@@ -76,8 +76,18 @@ module _ (b : List ℕ) (count : ℕ) (id term : List ℕ) (a : Adds b count id 
       let i = twelve_nineteen in
       (omega arith, omega (arith, a.space, i.0, i.1), omega (arith, a.few))
 
--- ---- the end of `add`
+-- ---- the two ends of `add`
 
+module _ (b : List ℕ) (count : ℕ) (id term : List ℕ) (r : ℕ) (e : r ≡ add_number b count id term) where
+  -- a refusal leaves the buffer as it was
+  pub refused : (r ≡ 0 → ⊥) → (r ≡ add_number b count id term) × (b ≡ add_bytes b count id term)
+  refused h = (e, sym (added_refused b count id term (λ z. h (e ∙ z))))
+
+  -- and 0 says what the entry is added to
+  pub passed : r ≡ 0 → Adds b count id term
+  passed z = number_adds b count id term (sym e ∙ z)
+
+-- where the number is 0, what the code leaves is the buffer with the entry added
 pub grew : (b : List ℕ) (count : ℕ) (id term : List ℕ) → 0 ≡ add_number b count id term → (o : List ℕ)
     → let n = get_or b 2 0 in o ≡ set (over b (4 + 12 * n) (id ++ (part b (4 + 12 * n) count ++ term))) 2 (n + 1)
     → o ≡ add_bytes b count id term

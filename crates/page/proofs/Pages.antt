@@ -1,11 +1,13 @@
 -- What the function page leaves, by the length of its buffer and the number of the book. Assumes nothing.
-use Prim.Native.Nat.{ℕ, ◌≤◌, ◌<◌}
+use Prim.Native.Nat.{ℕ, ◌-◌, ◌≤◌, ◌<◌}
 use mathlib.Core.Path.{◌≡◌, sym, ap, ◌∙◌}
 use mathlib.Core.List.{List}
 use native.Mathlib.Omega.{arith}
 use borrow.Author.Tests.{lt-ltb, le-ltb, eq-eqb, ne_eqb}
 use lib.ListN.{length, take}
+use lib.Seq.{take_all}
 use Rattle.std.specs.Prelude.{Some, None}
+use Rattle.std.proofs.lemmas.Option.{same_Some}
 use Rattle.text.specs.Text.{Written}
 use Rattle.text.specs.declared.Cursor.{Cursor}
 use Rattle.text.specs.Cursor.{Writes}
@@ -22,7 +24,8 @@ use Rattle.page_run.specs.declared.Ran.{Ran}
 use Rattle.dispatcher.specs.Events.{bytes_most, events_in}
 use Rattle.page_run.specs.Run.{refusals, Listed}
 use Rattle.page.specs.Page.{events_of, entries_text, run_text, text_from, page_of, longest, buffer_of, printed_of}
-use Rattle.page.proofs.Longest.{line_of}
+use Rattle.page.proofs.Longest.{line_of, page_most}
+use Rattle.page.proofs.Reports.{printed_length, written_long}
 
 -- what is answered, and the buffer that is left: of one that is too short, and with a page of r bytes
 pub short_printed : (book events d : List ℕ) → length d < longest → None ≡ printed_of book events d
@@ -42,6 +45,13 @@ module _ (book events : List ℕ) {d e : List ℕ} {r : ℕ} (h : longest ≤ le
   unfolding buffer_of
   page_buffer = rw (le-ltb (length d) longest h) w.text
 
+-- what is answered is within the buffer, whatever its length
+pub printed_fits : (book events d : List ℕ) (n : ℕ) → printed_of book events d ≡ Some n → n ≤ length d
+printed_fits book events d n q =
+    let h = written_long book events d n q in
+    let l = same_Some _ _ (sym (printed_length book events d h) ∙ q) in
+    omega (arith, page_most book events)
+
 -- the page of a refused book, and that of an accepted one
 module _ (book events : List ℕ) {d : List ℕ} {e : List ℕ} {r : ℕ} where
   pub refused_written : (n : ℕ) → n ≡ book_verdict book → 0 < n → Written d 0 (book_refused_line n) e r → Written d 0 (page_of book events) e r
@@ -57,6 +67,10 @@ module _ (book events : List ℕ) {d : List ℕ} {e : List ℕ} {r : ℕ} where
   accepted_written q t s f g w =
       let v = sym q in
       rw (eq-eqb (open_of book).number 0 (opened_number book ∙ v), page_of) (rw (g, f ∙ sym (opened_table book v)) at w)
+
+-- all bytes, where there are fewer than 60,000
+pub few_bytes : (s : List ℕ) → length s < bytes_most → take (length s - 0) s ≡ take bytes_most s
+few_bytes s h = take_all (length s - 0) s (omega arith) ∙ sym (take_all bytes_most s (omega arith))
 
 -- the line of an entry, whose identifier is that part of the book
 pub line_written : (book : List ℕ) (t : Table) (i : ℕ) (identifier : List ℕ) {a b : Cursor}

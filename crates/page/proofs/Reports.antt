@@ -5,10 +5,13 @@ use Prim.Native.Nat.{ℕ, ◌+◌, ◌≤◌}
 use mathlib.Core.Path.{◌≡◌, sym, ◌∙◌}
 use mathlib.Core.List.{List}
 use native.Mathlib.Omega.{arith}
-use borrow.Author.Tests.{le-ltb, eq-eqb}
+use borrow.Author.Tests.{ltb-false, le-ltb, eq-eqb}
+use lib.Dec.{ltb}
 use lib.ListN.{length, take, drop}
 use lib.Seq.{take-append_seam}
 use Rattle.std.specs.Prelude.{Some}
+use Rattle.std.proofs.lemmas.Option.{none-some}
+use Rattle.lists.proofs.Cases.{by_bool}
 use Rattle.text.specs.Text.{over, Written}
 use Rattle.book.specs.Book.{book_verdict}
 use Rattle.table_opening.specs.Opening.{open_of}
@@ -47,11 +50,19 @@ module _ (book events : List ℕ) where
     pub front_reported : book_verdict book ≡ 0 → Reported book (events_of events) (take r e)
     front_reported ok = rw page_front (page_reported ok)
 
-  -- a buffer that is long enough
+  -- a buffer of which a length is answered is long enough
+  pub written_long : (d : List ℕ) (n : ℕ) → printed_of book events d ≡ Some n → longest ≤ length d
+  unfolding printed_of
+  written_long d n q =
+      by_bool (ltb (length d) longest)
+      (λ e. absurd (none-some n (rw e at q)))
+      (λ e. ltb-false (length d) longest e)
+
+  -- a buffer that is long enough: the length of the page is answered, and the page is its front
   module _ (d : List ℕ) (h : longest ≤ length d) where
-    pub printed_long : printed_of book events d ≡ Some (length (page_of book events))
+    pub printed_length : printed_of book events d ≡ Some (length (page_of book events))
     unfolding printed_of
-    printed_long = rw (le-ltb (length d) longest h)
+    printed_length = rw (le-ltb (length d) longest h)
 
     pub page_part : (x : List ℕ) → x ≡ buffer_of book events d → take (length (page_of book events)) x ≡ page_of book events
     unfolding buffer_of

@@ -9,7 +9,7 @@ use native.Mathlib.Omega.{arith}
 use Rattle.std.proofs.lemmas.Bool.Decides.{nat_tests}
 use borrow.Author.Tests.{eq-eqb, ne_eqb}
 use lib.ListN.{length, get_or, take, length-append}
-use lib.Seq.{take-suc, take_at, length-take-le}
+use lib.Seq.{take-suc, take_all, take_at, length-take-le}
 use Rattle.page_lines.specs.Lines.{event_refused_line}
 use Rattle.page_lines.proofs.Longest.{event_most}
 use Rattle.table.specs.declared.Table.{Table}
@@ -114,3 +114,7 @@ module _ (ns : List ℕ) (a : Cursor) where
         let g : Writes a (refusals 1 (take k ns) ++ event_refused_line (k + 1) (get_or ns k 0)) c =
         then p.lines w (omega (arith, p.most, p.lines.written.end, e)) in
         record { lines = rw x at g; most = omega (arith, p.most, w.written.end) }
+
+  -- past the last number the lines of all of them are written
+  pub lines_end : (k : ℕ) (b : Cursor) → length ns ≤ k → Lines ns a k b → Writes a (refusals 1 ns) b
+  lines_end k b h p = rw (take_all k ns h) at p.lines

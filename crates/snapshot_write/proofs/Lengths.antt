@@ -8,9 +8,10 @@ use lib.ListN.{length, get_or, take, length-append, drop_of_length-le}
 use lib.Seq.{length-take-le, get_or-take}
 use Rattle.std.specs.Int.{to_le_bytes, w64}
 use Rattle.lists.proofs.Cases.{by_eq}
-use Rattle.text.specs.Text.{over, joined}
+use Rattle.text.specs.Text.{over, joined, Written}
 use Rattle.text.specs.declared.Cursor.{Cursor}
 use Rattle.text.specs.Cursor.{Writes}
+use Rattle.text.proofs.Over.{then as written_then}
 use Rattle.text.proofs.Writes.{then, then_two}
 use Rattle.pricer.specs.declared.Bond.{Bond}
 use Rattle.table.specs.declared.Job.{Job}
@@ -28,6 +29,15 @@ use Rattle.snapshot_write.specs.Bytes.{machine_state_bytes}
 use Rattle.snapshot_write.specs.Bytes.{numbers_bytes, numbers_size, flight_bytes, encode}
 
 -- ---- numbers
+
+-- how many bytes one of 16, of 32 and of 64 bits has
+pub length_16 : (x : ℕ) → length (bytes16 x) ≡ 2
+unfolding bytes16
+length_16 x = refl
+
+pub length_32 : (x : ℕ) → length (bytes32 x) ≡ 4
+unfolding bytes32 bytes16
+length_32 x = refl
 
 pub length_64 : (x : ℕ) → length (bytes64 x) ≡ 8
 unfolding bytes64 bytes32 bytes16
@@ -174,6 +184,37 @@ length_bytes t l = simp length-append (omega (arith, length_entries t, length_ma
 pub over_all : (d w : List ℕ) → length w ≡ length d → over d 0 w ≡ w
 unfolding over
 over_all d w e = rw (drop_of_length-le d {i = 0 + length w} (omega arith)) (append-nil w)
+
+-- ---- numbers and arrays, written over any list
+
+-- where each ends
+module _ {d : List ℕ} {at : ℕ} {e : List ℕ} {m : ℕ} where
+  pub end_16 : (x : ℕ) → Written d at (bytes16 x) e m → m ≡ at + 2
+  end_16 x p = omega (arith, p.end, length_16 x)
+
+  pub end_32 : (x : ℕ) → Written d at (bytes32 x) e m → m ≡ at + 4
+  end_32 x p = omega (arith, p.end, length_32 x)
+
+  pub end_bonds : (l : List Bond) → Written d at (bonds_bytes l) e m → m ≡ at + 64 * bond_size
+  end_bonds l p = omega (arith, p.end, length_bonds l)
+
+  pub end_machines : (l : List Machine) → Written d at (machines_bytes l) e m → m ≡ at + 16 * machine_size
+  end_machines l p = omega (arith, p.end, length_machines l)
+
+  pub end_jobs : (l : List Job) → Written d at (jobs_bytes l) e m → m ≡ at + 64 * job_size
+  end_jobs l p = omega (arith, p.end, length_jobs l)
+
+-- a number, written as its lower half and its upper half
+module _ {d : List ℕ} {at : ℕ} {e : List ℕ} {m : ℕ} {f : List ℕ} {r : ℕ} where
+  pub written_32 : (x : ℕ) → Written d at (bytes16 (x % 65536)) e m → Written e m (bytes16 (x / 65536)) f r → at + 4 ≤ length d
+      → Written d at (bytes32 x) f r
+  unfolding bytes32
+  written_32 x p q h = written_then p q (omega (arith, length_32 x))
+
+  pub written_64 : (x : ℕ) → Written d at (bytes32 (x % 4294967296)) e m → Written e m (bytes32 (x / 4294967296)) f r → at + 8 ≤ length d
+      → Written d at (bytes64 x) f r
+  unfolding bytes64
+  written_64 x p q h = written_then p q (omega (arith, length_64 x))
 
 -- ---- one part after another, as each function writes them
 

@@ -1,7 +1,9 @@
 -- `book_writer::add` meets its contract: a refusal leaves the buffer, and what is written is the grown book. Assumes nothing.
 use native.Mathlib.Omega.{arith}
-use mathlib.Core.Path.{sym, ◌∙◌}
+use borrow.Author.Rules.{rules}
+use mathlib.Core.Path.{◌≡◌, sym, ◌∙◌}
 use Rattle.refusal.proofs.Passed.{passed_on, not_zero}
+use Rattle.book_writer.specs.Writer.{add_number}
 use Rattle.book_writer.proofs.Answers.{number_adds, added_refused}
 use Rattle.book_writer.proofs.Growing.{grow_asks, grew}
 use Rattle.book_writer.proofs.add.Goals as goal
@@ -15,7 +17,9 @@ returns-in_err-number c =
     }
 
 pub bounds-buffer-2 : goal.bounds-buffer-2
-bounds-buffer-2 c = omega (arith, (number_adds _ _ _ _ (sym c.in_ok-number.ensures)).space)
+bounds-buffer-2 c =
+    let e : 0 ≡ add_number c.args.buffer.now c.args.count c.args.id.now c.args.term.now = search rules in
+    omega (arith, (number_adds _ _ _ _ (sym e)).space)
 
 pub grow-requires : goal.grow-requires
 grow-requires c = grow_asks _ _ _ _ (number_adds _ _ _ _ (sym c.in_ok-number.ensures))

@@ -74,8 +74,9 @@ returns-in_err-entry_fault c =
 
 pub returns-then-size-s-lt31 : goal.returns-then-size-s-lt31
 returns-then-size-s-lt31 c =
-    sym (by_room _ _ _ _ c.in_ok-verdict.ensures c.if-n-ge64.false c.in_ok-entry_fault.ensures
-    ∙ rw (lt-ltb _ _ (shorter _ _ (search rules) c.if-size-s-lt31.true)))
+    let n = get_or c.args.s.now 2 0 in
+    let f : 0 ≡ entry_fault c.args.s.now n c.args.id.now c.args.term.now = search rules in
+    sym (by_room _ _ _ _ c.in_ok-verdict.ensures c.if-n-ge64.false f ∙ rw (lt-ltb _ _ (shorter _ _ (search rules) c.if-size-s-lt31.true)))
 
 pub returns : goal.returns
 returns c =

@@ -2,6 +2,7 @@
 use mathlib.Core.Path.{◌≡◌, refl, sym, ap, ◌∙◌}
 use native.Mathlib.Omega.{arith}
 use lib.ListN.{length}
+use Rattle.refusal.proofs.Passed.{not_zero}
 use Rattle.worst_run.proofs.Bytes.{length_bytes, run_none, run_more}
 use Rattle.worst_run.proofs.Numbers.{Fits, fits, refused, written}
 use Rattle.worst_run.proofs.write.Goals as goal
@@ -11,7 +12,7 @@ room : (c : In_ok-verdict) → Fits c.args.machines c.args.deaths (length c.args
 room c = fits _ _ _ (sym c.in_ok-verdict.ensures)
 
 pub returns-in_err-verdict-clause-buffer_after : goal.returns-in_err-verdict-clause-buffer_after
-returns-in_err-verdict-clause-buffer_after c = refused _ _ _ c.in_err-verdict.field-0.0 c.in_err-verdict.ensures
+returns-in_err-verdict-clause-buffer_after c = refused _ _ _ _ refl (not_zero _ _ c.in_err-verdict.ensures)
 
 pub put-requires : goal.put-requires
 put-requires c = let f = room (goal.at.put-requires c).In_ok-verdict in let n = c.new-c.ensures in omega (arith, f.room, n.at, ap length n.text)
